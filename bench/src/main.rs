@@ -1,0 +1,185 @@
+//! Times this library's block loop against the portable code of the Rust crate, in one process.
+//!
+//! The sides and the sizes take turns, so that a slow spell of the machine meets all of them, and the
+//! fastest of many rounds counts, since whatever disturbs a round only makes it slower. The crate also runs
+//! as a third side, against itself, which shows the noise of the clock and the machine. It does not show
+//! what depends on where the linker puts each side's code: that changes with the build, not with the run.
+
+use blake2b_simd::{benchmarks, Params};
+use std::time::Instant;
+
+#[link(name = "exports", kind = "static")]
+extern "C" {
+    fn sumpillow_compress1_loop(
+        input: *const u8,
+        length: usize,
+        words: &mut [u64; 8],
+        count: u64,
+        last_node: bool,
+        finalize: bool,
+        parallel: bool,
+    );
+    fn sumpillow_compress_block(
+        block: &[u8; 128],
+        words: &mut [u64; 8],
+        count_low: u64,
+        count_high: u64,
+        last_block: bool,
+        last_node: bool,
+    );
+}
+
+// The words before the first block of an unkeyed hash of 64 bytes.
+const INITIAL: [u64; 8] = [
+    0x6A09E667F2BDC948,
+    0xBB67AE8584CAA73B,
+    0x3C6EF372FE94F82B,
+    0xA54FF53A5F1D36F1,
+    0x510E527FADE682D1,
+    0x9B05688C2B3E6C1F,
+    0x1F83D9ABFB41BD6B,
+    0x5BE0CD19137E2179,
+];
+
+const SIZES: [usize; 3] = [128, 4 << 10, 1 << 20];
+const BATCHES: usize = 5;
+// A timed run hashes at least this much, so that the clock's own cost does not show.
+const LEAST_BYTES: usize = 64 << 10;
+
+type Digest = [u8; 64];
+
+fn digest_of(words: [u64; 8]) -> Digest {
+    let mut digest = [0; 64];
+    for (bytes, word) in digest.chunks_exact_mut(8).zip(words) {
+        bytes.copy_from_slice(&word.to_le_bytes());
+    }
+    digest
+}
+
+fn ours(input: &[u8], last_node: bool, parallel: bool) -> Digest {
+    let (start, length) = (input.as_ptr(), input.len());
+    let mut words = INITIAL;
+    unsafe { sumpillow_compress1_loop(start, length, &mut words, 0, last_node, true, parallel) };
+    digest_of(words)
+}
+
+fn ours_by_one_block(block: &[u8; 128], last_node: bool) -> Digest {
+    let mut words = INITIAL;
+    unsafe { sumpillow_compress_block(block, &mut words, 128, 0, true, last_node) };
+    digest_of(words)
+}
+
+fn portable() -> Params {
+    let mut params = Params::new();
+    benchmarks::force_portable(&mut params);
+    params
+}
+
+fn theirs(params: &Params, input: &[u8]) -> Digest {
+    *params.hash(input).as_array()
+}
+
+fn check_agreement(data: &[u8]) {
+    for last_node in [false, true] {
+        let mut params = portable();
+        params.last_node(last_node);
+        for length in (0..=1024).chain(SIZES) {
+            let input = &data[..length];
+            assert_eq!(
+                ours(input, last_node, false),
+                theirs(&params, input),
+                "{length} bytes"
+            );
+        }
+        let block = data[..128].try_into().unwrap();
+        assert_eq!(ours_by_one_block(block, last_node), theirs(&params, block));
+        // A leaf of BLAKE2bp takes one block in four.
+        let every_fourth = [&data[..128], &data[512..640]].concat();
+        assert_eq!(
+            ours(&data[..1024], last_node, true),
+            theirs(&params, &every_fourth)
+        );
+    }
+}
+
+// Keeps the compiler from moving work on `value` out of the loop that is timed.
+fn opaque<T: Copy>(value: T) -> T {
+    unsafe { std::ptr::read_volatile(&value) }
+}
+
+// Nanoseconds a byte of one timed run.
+fn time(hash: &dyn Fn(&[u8]) -> Digest, input: &[u8], expected: &Digest) -> f64 {
+    let repeats = (LEAST_BYTES / input.len()).max(1);
+    let mut digest = [0; 64];
+    let start = Instant::now();
+    for _ in 0..repeats {
+        digest = opaque(hash(opaque(input)));
+    }
+    let elapsed = start.elapsed();
+    assert_eq!(&digest, expected);
+    elapsed.as_nanos() as f64 / (repeats * input.len()) as f64
+}
+
+fn least(times: [f64; BATCHES]) -> f64 {
+    times.into_iter().fold(f64::INFINITY, f64::min)
+}
+
+fn ratio(times: [f64; BATCHES], others: [f64; BATCHES]) -> String {
+    let mut batches: [f64; BATCHES] = std::array::from_fn(|batch| times[batch] / others[batch]);
+    batches.sort_by(f64::total_cmp);
+    let [low, mid, high] = [0, BATCHES / 2, BATCHES - 1].map(|rank| batches[rank]);
+    format!(
+        "{:.3} ({low:.3} {mid:.3} {high:.3})",
+        least(times) / least(others)
+    )
+}
+
+fn main() {
+    let rounds: usize = std::env::args()
+        .nth(1)
+        .map_or(200, |text| text.parse().expect("rounds: a number"));
+    let data: Vec<u8> = (0..*SIZES.iter().max().unwrap())
+        .map(|i| (i * 7 + i / 251) as u8)
+        .collect();
+    check_agreement(&data);
+
+    let params = portable();
+    let crate_side = |input: &[u8]| theirs(&params, input);
+    let sides: [&dyn Fn(&[u8]) -> Digest; 3] =
+        [&|input| ours(input, false, false), &crate_side, &crate_side];
+
+    let mut fastest = [[[f64::INFINITY; BATCHES]; 3]; SIZES.len()];
+    for batch in 0..BATCHES {
+        for round in 0..rounds {
+            for (size, length) in SIZES.into_iter().enumerate() {
+                let input = &data[..length];
+                let expected = crate_side(input);
+                for turn in 0..3 {
+                    let side = (round + turn) % 3;
+                    let best = &mut fastest[size][side][batch];
+                    *best = best.min(time(sides[side], input, &expected));
+                }
+            }
+        }
+    }
+
+    println!(
+        "ours: the block loop, finalizing, from the initial words; crate: Params::hash, portable"
+    );
+    println!("both gave the same digests; neither clears its buffers");
+    println!("crate : itself is the noise within a run; the placement of code, fixed by the build, adds to it");
+    println!("ratio of the fastest of all rounds (of {BATCHES} batches of {rounds} rounds: lowest, median, highest)");
+    println!(
+        "{:>8} {:>10} {:>10}  {:<28}{}",
+        "bytes", "ours ns/B", "crate ns/B", "ours : crate", "crate : itself"
+    );
+    for (length, [ours, first, again]) in SIZES.into_iter().zip(fastest) {
+        println!(
+            "{length:>8} {:>10.3} {:>10.3}  {:<28}{}",
+            least(ours),
+            least(first),
+            ratio(ours, first),
+            ratio(again, first)
+        );
+    }
+}

@@ -1,0 +1,107 @@
+-- The sixteen worked cases of specs/Cases.antt hold: lengths are computed from lengths, and compared with the table by the checker.
+-- Assumes nothing.
+use mathlib.Core.Path.{_≡_, refl, sym, ap, _∙_}
+use mathlib.Core.Bool.{Bool, true, false, cond}
+use mathlib.Core.List.{List, [], _∷_, _++_, map, flatMap, foldl-append}
+use Prim.Native.Nat.{ℕ, zero, suc, _+_, _-_, _*_, _/_, min, _≤_}
+use native.Mathlib.Nat.{zero-add, not-suc-le-zero}
+use native.Mathlib.Numerals.{add-one}
+use native.Mathlib.Omega.{arith}
+use lib.ListN.{length, length-append, length-take, length-drop, length-map, length-replicate}
+use Rattle.definitions.specs.Words.{_!_, from, part, pad}
+use Rattle.definitions.specs.Family.{BLAKE2b}
+use Rattle.definitions.specs.Hash.{Call, start, words, parameterBlock, keyed, calls}
+use Rattle.definitions.specs.Tree.{share, parameters}
+use Rattle.definitions.specs.Cases.{Question, chain, leaves, begin, Key, seen, summary, Holds, Case, table, Each}
+
+length-from : (i n : ℕ) → length (from i n) ≡ n
+length-from i zero = refl
+length-from i (suc n) = ap suc (length-from (suc i) n)
+
+length-part : (n : ℕ) (s : List ℕ) (i : ℕ) → length (part n s i) ≡ min n (length s - i * n)
+length-part n s i = simp (length-take, length-drop)
+
+length-pad : (n : ℕ) (s : List ℕ) → length s ≤ n → length (pad n s) ≡ n
+unfolding pad
+length-pad n s h = simp (length-append, length-replicate) (omega arith)
+
+-- lengths alone
+abbrev head : Bool → ℕ
+head k = cond k 128 0
+
+length-keyed : (k : Bool) (key m : List ℕ) → Key k key → length (keyed BLAKE2b key m) ≡ head k + length m
+unfolding keyed
+length-keyed false [] m h = sym (zero-add (length m))
+length-keyed false (x ∷ key) m h = absurd (omega arith)
+length-keyed true [] m h = absurd (not-suc-le-zero (h .0))
+length-keyed true (x ∷ key) m h = length-append (pad 128 (x ∷ key)) m ∙ ap (λ (n : ℕ). n + length m) (length-pad 128 (x ∷ key) (omega (arith, h .1)))
+
+sum : (ℕ → ℕ) → List ℕ → ℕ
+sum g [] = 0
+sum g (x ∷ l) = g x + sum g l
+
+length-flat : (g : ℕ → List ℕ) (h : ℕ → ℕ) → ((x : ℕ) → length (g x) ≡ h x) → (l : List ℕ) → length (flatMap g l) ≡ sum h l
+unfolding flatMap sum
+length-flat g h e [] = refl
+length-flat g h e (x ∷ l) = length-append (g x) (flatMap g l) ∙ (λ i. e x i + length-flat g h e l i)
+
+map-same : (g h : ℕ → ℕ) → ((x : ℕ) → g x ≡ h x) → (l : List ℕ) → map g l ≡ map h l
+map-same g h e [] = refl
+map-same g h e (x ∷ l) = λ i. e x i ∷ map-same g h e l i
+
+shape : ℕ → List ℕ
+shape n = suc ((n - 1) / 128) ∷ n ∷ min 128 (n - (n - 1) / 128 * 128) ∷ []
+
+summary-is : (d : List ℕ) → summary (calls BLAKE2b false d) ≡ shape (length d)
+unfolding summary calls shape
+summary-is d =
+    let n : ℕ = (length d - 1) / 128 in
+    let full : ℕ → Call = λ i. record { block = part 128 d i; count = (i + 1) * 128; last = false; node = false } in
+    let end : List Call = record { block = part 128 d n; count = length d; last = true; node = false } ∷ [] in
+    let e : length (map full (from 0 n) ++ end) ≡ suc n =
+    length-append (map full (from 0 n)) end ∙ ap (λ (k : ℕ). k + 1) (length-map (from 0 n) full ∙ length-from 0 n) ∙ add-one n in
+    λ i. e i ∷ (foldl-append seen [] (map full (from 0 n)) end ∙ ap (λ (k : ℕ). length d ∷ k ∷ []) (length-part 128 d n)) i
+
+sizes : Bool → ℕ → List ℕ
+sizes k n = map (λ i. head k + sum (λ j. min 128 (n - (i + 4 * j) * 128)) (from 0 (suc (n / 512)))) (from 0 4)
+
+predicted : Question → List ℕ
+predicted (chain k n) = shape (head k + n)
+predicted (leaves k n) = sizes k n
+predicted (begin p places) = map (λ i. start BLAKE2b p ! i) places
+
+chain-holds : (k : Bool) (n : ℕ) (a : List ℕ) → shape (head k + n) ≡ a → Holds (chain k n) a
+chain-holds k n a e key m hk hm =
+    summary-is (keyed BLAKE2b key m) ∙ ap shape (length-keyed k key m hk ∙ ap (λ (x : ℕ). head k + x) hm) ∙ e
+
+leaves-hold : (k : Bool) (n : ℕ) (a : List ℕ) → sizes k n ≡ a → Holds (leaves k n) a
+unfolding sizes share
+leaves-hold k n a e key m hk hm =
+    map-same (λ i. length (keyed BLAKE2b key (share 128 4 m i))) (λ i. head k + sum (λ j. min 128 (length m - (i + 4 * j) * 128)) (from 0 (suc (length m / 512))))
+    (λ i. length-keyed k key (share 128 4 m i) hk
+    ∙ ap (λ (x : ℕ). head k + x) (length-flat (λ j. part 128 m (i + 4 * j)) (λ j. min 128 (length m - (i + 4 * j) * 128)) (λ j. length-part 128 m (i + 4 * j)) (from 0 (suc (length m / 512)))))
+    (from 0 4)
+    ∙ ap (sizes k) hm ∙ e
+
+sound : (q : Question) (a : List ℕ) → predicted q ≡ a → Holds q a
+unfolding predicted
+sound (chain k n) a e = chain-holds k n a e
+sound (leaves k n) a e = leaves-hold k n a e
+sound (begin p places) a e = e
+
+first : Case → List (List ℕ) → List ℕ
+first c [] = c .answer
+first c (x ∷ l) = x
+
+rest : List (List ℕ) → List (List ℕ)
+rest [] = []
+rest (x ∷ l) = l
+
+each : (t : List Case) → map (λ c. predicted (c .question)) t ≡ map (λ c. c .answer) t → Each t
+unfolding first rest
+each [] e = tt
+each (c ∷ t) e = (sound (c .question) (c .answer) (ap (first c) e), each t (ap rest e))
+
+pub worked : Each table
+unfolding table predicted shape sizes sum start words parameterBlock pad parameters
+worked = each table refl

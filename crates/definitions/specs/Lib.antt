@@ -1,0 +1,7 @@
+pub mod Words
+pub mod Family
+pub mod Compress
+pub mod Hash
+pub mod Tree
+pub mod Cases
+pub mod Vectors

@@ -1,0 +1,9 @@
+pub mod Lists
+pub mod Rotate
+pub mod Bytes
+pub mod Schedule
+pub mod Compression
+pub mod Rows
+pub mod Chains
+pub mod Shares
+pub mod Calls

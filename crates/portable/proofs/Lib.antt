@@ -1,0 +1,2 @@
+pub mod BlockAt
+pub mod Table

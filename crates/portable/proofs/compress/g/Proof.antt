@@ -1,0 +1,14 @@
+use Rattle.definitions.specs.Compress.{G}
+use borrow.Author.Needs.{needs}
+use Rattle.portable.proofs.compress.g.Statement.{statement}
+use Rattle.portable.proofs.compress.g.Tie as tie
+
+returns : tie.Need-returns
+unfolding G
+returns c = cc
+
+pub g-spec : {M : Type 1} → statement M
+g-spec =
+    tie.close
+    (tie.spec (λ c κs. search needs) (λ c κs. search needs) (λ c κs. search needs) (λ c κs. search needs) (λ c κs. search needs) (λ c κs. search needs)
+    (λ c κs. search needs) (λ c κs. search needs) returns)

@@ -1,0 +1,2 @@
+pub mod Guts
+pub mod Quads

@@ -1,0 +1,84 @@
+// The loop over the blocks of an input, serial or at a leaf's stride.
+use crate::compress::compress_block;
+use crate::guts::Finalize;
+use crate::guts::LastNode;
+use crate::guts::Stride;
+use crate::guts::count_high;
+use crate::guts::count_low;
+use crate::guts::final_block;
+use crate::guts::final_facts;
+use crate::guts::pad_final_block;
+use crate::guts::zero_block;
+ghost use mathlib.Core.Path.{_≡_};
+ghost use mathlib.Core.Bool.{_&&_};
+ghost use Prim.Native.Nat.{_+_, _*_, _^_, _<_};
+ghost use lib.ListN.{length};
+ghost use Rattle.definitions.specs.Family.{BLAKE2b};
+ghost use Rattle.laws.specs.Chain.{spare};
+ghost use Rattle.laws.specs.Blocks.{throughBlocks};
+ghost use Rattle.portable.specs.Guts.{finalizes, isLastNode, paddedBlockbytes};
+
+// What a run of the loop hands back.
+pub struct Compressed {
+    pub words: [u64; 8],
+}
+
+fn both(a: bool, b: bool) -> bool
+    ensures { λ r. ⌜ r ≡ (a && b) ⌝ }
+{
+    if a { b } else { false }
+}
+
+// Where the last of the blocks starts that begin at each multiple of row.
+fn final_offset(n: usize, row: usize) -> usize
+    requires { ⌜ 0 < row ⌝ }
+    ensures { λ r. ⌜ r ≡ row * spare row 0 n ⌝ }
+{
+    if n == 0 {
+        return 0;
+    }
+    let m = n - 1;
+    m - m % row
+}
+
+// The blocks of the input at each multiple of the stride, the last of them padded, and flagged where it finalizes. The one call of
+// compress_block serves the last block and all others: a second call would cost a twentieth of the time.
+pub fn compress1_loop(
+    input: &[u8],
+    words: [u64; 8],
+    count: u64,
+    last_node: LastNode,
+    finalize: Finalize,
+    stride: Stride,
+) -> Compressed
+    requires { ⌜ count + length (now input) < 2 ^ 64 ⌝ }
+    ensures { λ r. ⌜ r .words ≡ throughBlocks BLAKE2b (paddedBlockbytes stride) words count (finalizes finalize) (finalizes finalize && isLastNode «last_node») (now (input .entry)) ⌝ }
+{
+    let row = stride.padded_blockbytes();
+    let mut buf = zero_block();
+    pad_final_block(input, final_offset(input.len(), row), &mut buf);
+    let fin_last_block = finalize.yes();
+    let fin_last_node = both(fin_last_block, last_node.yes());
+    let mut local_words = words;
+    let mut local_count = count;
+    let mut offset: usize = 0;
+    loop {
+        let facts = final_facts(input, offset, stride);
+        let last = facts.may_finalize;
+        local_count += facts.len as u64;
+        let block = final_block(input, offset, &buf);
+        let next = compress_block(
+            block,
+            local_words,
+            count_low(local_count),
+            count_high(local_count),
+            both(last, fin_last_block),
+            both(last, fin_last_node),
+        );
+        local_words = next;
+        if last {
+            return Compressed { words: local_words };
+        }
+        offset += row;
+    }
+}

@@ -1,0 +1,55 @@
+// The two leaves between bytes and words, little-endian.
+ghost use mathlib.Core.Path.{_≡_};
+ghost use mathlib.Core.List.{flatMap};
+ghost use Prim.Native.Nat.{_<_};
+ghost use lib.ListN.{length};
+ghost use Rattle.definitions.specs.Words.{bytes};
+ghost use Rattle.definitions.specs.Family.{BLAKE2b};
+ghost use Rattle.definitions.specs.Hash.{words};
+
+fn wide(x: u8) -> u64
+    ensures { λ r. ⌜ (r ≡ x) × (r < 256) ⌝ }
+{
+    x as u64
+}
+
+// The sixteen words of a block.
+pub fn read_words(block: &[u8]) -> [u64; 16]
+    requires { ⌜ length (now block) ≡ 128 ⌝ }
+    ensures { λ r. ⌜ r ≡ words BLAKE2b 16 (now (block .entry)) ⌝ }
+{
+    let mut m = [0u64; 16];
+    let mut i: usize = 0;
+    while i < 16 {
+        let mut x: u64 = 0;
+        let mut j: usize = 0;
+        while j < 8 {
+            let p = i * 8 + (7 - j);
+            x = x * 256 + wide(block[p]);
+            j += 1;
+        }
+        m[i] = x;
+        i += 1;
+    }
+    m
+}
+
+// The sixty-four bytes of eight words.
+pub fn write_words(h: [u64; 8]) -> [u8; 64]
+    ensures { λ r. ⌜ r ≡ flatMap (bytes 8) h ⌝ }
+{
+    let mut out = [0u8; 64];
+    let mut i: usize = 0;
+    while i < 8 {
+        let mut x = h[i];
+        let mut j: usize = 0;
+        while j < 8 {
+            let p = i * 8 + j;
+            out[p] = (x % 256) as u8;
+            x = x / 256;
+            j += 1;
+        }
+        i += 1;
+    }
+    out
+}

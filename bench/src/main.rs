@@ -19,14 +19,6 @@ extern "C" {
         finalize: bool,
         parallel: bool,
     );
-    fn sumpillow_compress_block(
-        block: &[u8; 128],
-        words: &mut [u64; 8],
-        count_low: u64,
-        count_high: u64,
-        last_block: bool,
-        last_node: bool,
-    );
 }
 
 // The words before the first block of an unkeyed hash of 64 bytes.
@@ -63,12 +55,6 @@ fn ours(input: &[u8], last_node: bool, parallel: bool) -> Digest {
     digest_of(words)
 }
 
-fn ours_by_one_block(block: &[u8; 128], last_node: bool) -> Digest {
-    let mut words = INITIAL;
-    unsafe { sumpillow_compress_block(block, &mut words, 128, 0, true, last_node) };
-    digest_of(words)
-}
-
 fn portable() -> Params {
     let mut params = Params::new();
     benchmarks::force_portable(&mut params);
@@ -91,8 +77,6 @@ fn check_agreement(data: &[u8]) {
                 "{length} bytes"
             );
         }
-        let block = data[..128].try_into().unwrap();
-        assert_eq!(ours_by_one_block(block, last_node), theirs(&params, block));
         // A leaf of BLAKE2bp takes one block in four.
         let every_fourth = [&data[..128], &data[512..640]].concat();
         assert_eq!(

@@ -1,9 +1,9 @@
-// What a program in C or Rust links: the block loop and the compression function, on numbers and lent bytes.
-// Test code: safe by proof, with no promise of its own.
+// What a program in C or Rust links: the block loop, on numbers and lent bytes.
+// Test code: safe by proof, with no promise of its own. It has one caller of compress_block, the loop, as the library has: a second
+// one would keep the compiler from inlining it.
 use portable::Finalize;
 use portable::LastNode;
 use portable::Stride;
-use portable::compress_block;
 use portable::compress1_loop;
 ghost use Prim.Native.Nat.{_+_, _<_, _^_};
 ghost use lib.ListN.{length};
@@ -45,19 +45,5 @@ pub extern "C" fn sumpillow_compress1_loop(
         stride_of(parallel),
     );
     let next = run.words;
-    *words = next;
-}
-
-#[no_mangle]
-pub extern "C" fn sumpillow_compress_block(
-    block: &[u8; 128],
-    words: &mut [u64; 8],
-    count_low: u64,
-    count_high: u64,
-    last_block: bool,
-    last_node: bool,
-) {
-    let h = *words;
-    let next = compress_block(block, h, count_low, count_high, last_block, last_node);
     *words = next;
 }

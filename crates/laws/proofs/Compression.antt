@@ -44,12 +44,13 @@ module _ (f : Family) where
   unfolding round columnsOf diagonalsOf ordered
   round-is s m v = refl
 
-  -- a round more: the message words in its order, the columns and the diagonals
-  pub step : (i : ℕ) (m v0 : List ℕ) {x y z v : List ℕ} → v ≡ roundsTo f i m v0 → x ≡ ordered m (getD SIGMA (i % 10) [])
+  -- a round more: the message words in the order of its row, the columns and the diagonals
+  pub step : (i : ℕ) (m v0 : List ℕ) {s x y z v : List ℕ} → s ≡ getD SIGMA (i % 10) [] → v ≡ roundsTo f i m v0 → x ≡ ordered m s
       → y ≡ columnsOf f x v → z ≡ diagonalsOf f x y → z ≡ roundsTo f (suc i) m v0
   unfolding roundsTo
-  step i m v0 p e g h =
-      h ∙ (λ j. diagonalsOf f (e j) ((g ∙ (λ k. columnsOf f (e k) (p k))) j)) ∙ round-is (getD SIGMA (i % 10) []) m (roundsTo f i m v0)
+  step i m v0 {s} r p e g h =
+      h ∙ (λ j. diagonalsOf f (e j) ((g ∙ (λ k. columnsOf f (e k) (p k))) j)) ∙ round-is s m (roundsTo f i m v0)
+      ∙ ap (λ (q : List ℕ). round f q m (roundsTo f i m v0)) r
 
   -- F from its pieces, at a count of two words
   pub F-is : (h m : List ℕ) {v v0 r : List ℕ} (lo hi : ℕ) (last node : Bool) → lo < 2 ^ w

@@ -14,10 +14,6 @@ use Rattle.definitions.specs.Compress.{G}
 unfoldable pub ordered : List ℕ → List ℕ → List ℕ
 ordered m s = map (λ i. m ! (s ! i)) (from 0 16)
 
--- each number of a row is the place of a message word
-unfoldable pub Places : List ℕ → Type 0
-Places s = (i : ℕ) → s ! i < 16
-
 -- h[i] ^ v[i] ^ v[i + 8]
 unfoldable pub foldHalves : List ℕ → List ℕ → List ℕ
 foldHalves h v = map (λ i. h ! i ⊕ v ! i ⊕ v ! (i + 8)) (from 0 8)
@@ -27,9 +23,10 @@ unfoldable pub times : ℕ → List ℕ → ℕ
 times k [] = 0
 times k (x ∷ s) = cond (eqb k x) 1 0 + times k s
 
--- s is an order of 0 to 15: sixteen numbers, each k below 16 once
+-- s is an order of 0 to 15: sixteen numbers below 16, each of them once
 pub record Order (s : List ℕ) : Type 0 where
   pub sixteen : length s ≡ 16
+  pub below : (i : ℕ) → s ! i < 16
   pub once : (k : ℕ) → k < 16 → times k s ≡ 1
 
 module _ (f : Family) where

@@ -1,2 +1,1 @@
 pub mod BlockAt
-pub mod Table

@@ -3,15 +3,13 @@ use crate::guts::flag_word;
 use crate::words::read_words;
 use std::num::wrapping_add_u64;
 ghost use mathlib.Core.Path.{_≡_};
-ghost use mathlib.Core.List.{[]};
 ghost use Prim.Native.Nat.{_+_, _*_, _%_, _^_, _<_};
-ghost use lib.ListN.{length, getD};
+ghost use lib.ListN.{length};
 ghost use Rattle.definitions.specs.Words.{rotr, _!_};
 ghost use Rattle.definitions.specs.Family.{BLAKE2b};
 ghost use Rattle.definitions.specs.Compress.{roundsTo, F};
-ghost use Rattle.definitions.specs.Compress as Compress;
 ghost use Rattle.definitions.specs.Hash as Hash;
-ghost use Rattle.laws.specs.Halves.{Places, Order, ordered, mixed, columnsOf, diagonalsOf, begin, foldHalves};
+ghost use Rattle.laws.specs.Halves.{Order, ordered, mixed, columnsOf, diagonalsOf, begin, foldHalves};
 ghost use Rattle.portable.specs.Quads.{listed};
 
 const IV: [u64; 8] = [
@@ -82,28 +80,18 @@ fn g(a: u64, b: u64, c: u64, d: u64, x: u64, y: u64) -> Quad
 
 // The word of m that the i-th number of a row names.
 fn pick(m: &[u64; 16], s: [u8; 16], i: usize) -> u64
-    requires { ⌜ (i < 16) × Places s ⌝ }
+    requires { ⌜ (i < 16) × (s ! i < 16) ⌝ }
     ensures { λ r. ⌜ r ≡ now (m .entry) ! (s ! i) ⌝ }
 {
     let k = s[i] as usize;
     m[k]
 }
 
-// A row of the message schedule.
-fn sigma_row(r: usize) -> [u8; 16]
-    requires { ⌜ r < 12 ⌝ }
-    ensures { λ x. ⌜ (x ≡ getD Compress.SIGMA (r % 10) []) × Order x ⌝ }
+// The message words in the order of a row.
+fn arranged(m: &[u64; 16], s: [u8; 16]) -> [u64; 16]
+    requires { ⌜ Order s ⌝ }
+    ensures { λ r. ⌜ r ≡ ordered (now (m .entry)) s ⌝ }
 {
-    let t = SIGMA;
-    t[r]
-}
-
-// The message words in the order of round r.
-fn arranged(m: &[u64; 16], r: usize) -> [u64; 16]
-    requires { ⌜ r < 12 ⌝ }
-    ensures { λ x. ⌜ x ≡ ordered (now (m .entry)) (getD Compress.SIGMA (r % 10) []) ⌝ }
-{
-    let s = sigma_row(r);
     let mut x = [0u64; 16];
     let mut i: usize = 0;
     while i < 16 {
@@ -170,44 +158,44 @@ fn diagonals(v: [u64; 16], x: [u64; 16]) -> [u64; 16]
     ]
 }
 
-// The twelve rounds on the message words m.
+// The twelve rounds on the message words m, written out: with a row that is not a constant the table would be made anew at each use.
 fn rounds(v0: [u64; 16], m: &[u64; 16]) -> [u64; 16]
     ensures { λ r. ⌜ r ≡ roundsTo BLAKE2b 12 (now (m .entry)) v0 ⌝ }
 {
-    let x0 = arranged(m, 0);
+    let x0 = arranged(m, SIGMA[0]);
     let c0 = columns(v0, x0);
     let v1 = diagonals(c0, x0);
-    let x1 = arranged(m, 1);
+    let x1 = arranged(m, SIGMA[1]);
     let c1 = columns(v1, x1);
     let v2 = diagonals(c1, x1);
-    let x2 = arranged(m, 2);
+    let x2 = arranged(m, SIGMA[2]);
     let c2 = columns(v2, x2);
     let v3 = diagonals(c2, x2);
-    let x3 = arranged(m, 3);
+    let x3 = arranged(m, SIGMA[3]);
     let c3 = columns(v3, x3);
     let v4 = diagonals(c3, x3);
-    let x4 = arranged(m, 4);
+    let x4 = arranged(m, SIGMA[4]);
     let c4 = columns(v4, x4);
     let v5 = diagonals(c4, x4);
-    let x5 = arranged(m, 5);
+    let x5 = arranged(m, SIGMA[5]);
     let c5 = columns(v5, x5);
     let v6 = diagonals(c5, x5);
-    let x6 = arranged(m, 6);
+    let x6 = arranged(m, SIGMA[6]);
     let c6 = columns(v6, x6);
     let v7 = diagonals(c6, x6);
-    let x7 = arranged(m, 7);
+    let x7 = arranged(m, SIGMA[7]);
     let c7 = columns(v7, x7);
     let v8 = diagonals(c7, x7);
-    let x8 = arranged(m, 8);
+    let x8 = arranged(m, SIGMA[8]);
     let c8 = columns(v8, x8);
     let v9 = diagonals(c8, x8);
-    let x9 = arranged(m, 9);
+    let x9 = arranged(m, SIGMA[9]);
     let c9 = columns(v9, x9);
     let v10 = diagonals(c9, x9);
-    let x10 = arranged(m, 10);
+    let x10 = arranged(m, SIGMA[10]);
     let c10 = columns(v10, x10);
     let v11 = diagonals(c10, x10);
-    let x11 = arranged(m, 11);
+    let x11 = arranged(m, SIGMA[11]);
     let c11 = columns(v11, x11);
     let v12 = diagonals(c11, x11);
     v12

@@ -19,6 +19,7 @@ extern "C" {
         finalize: bool,
         parallel: bool,
     );
+    fn sumpillow_write_words(words: &[u64; 8], out: &mut [u8; 64]);
 }
 
 // The words before the first block of an unkeyed hash of 64 bytes.
@@ -40,19 +41,15 @@ const LEAST_BYTES: usize = 64 << 10;
 
 type Digest = [u8; 64];
 
-fn digest_of(words: [u64; 8]) -> Digest {
-    let mut digest = [0; 64];
-    for (bytes, word) in digest.chunks_exact_mut(8).zip(words) {
-        bytes.copy_from_slice(&word.to_le_bytes());
-    }
-    digest
-}
-
 fn ours(input: &[u8], last_node: bool, parallel: bool) -> Digest {
     let (start, length) = (input.as_ptr(), input.len());
     let mut words = INITIAL;
-    unsafe { sumpillow_compress1_loop(start, length, &mut words, 0, last_node, true, parallel) };
-    digest_of(words)
+    let mut digest = [0; 64];
+    unsafe {
+        sumpillow_compress1_loop(start, length, &mut words, 0, last_node, true, parallel);
+        sumpillow_write_words(&words, &mut digest);
+    }
+    digest
 }
 
 fn portable() -> Params {
@@ -148,7 +145,7 @@ fn main() {
     }
 
     println!(
-        "ours: the block loop, finalizing, from the initial words; crate: Params::hash, portable"
+        "ours: the block loop, finalizing, from the initial words, and the digest's bytes; crate: Params::hash, portable"
     );
     println!("both gave the same digests; neither clears its buffers");
     println!("crate : itself is the noise within a run; the placement of code, fixed by the build, adds to it");

@@ -3,27 +3,17 @@
 use mathlib.Core.Path.{_≡_, refl, sym, ap, _∙_}
 use mathlib.Core.Bool.{Bool, true, false, cond}
 use mathlib.Core.List.{List, [], _∷_, _++_, map, flatMap, foldl-append}
-use Prim.Native.Nat.{ℕ, zero, suc, _+_, _-_, _*_, _/_, min, _≤_}
+use Prim.Native.Nat.{ℕ, suc, _+_, _-_, _*_, _/_, min}
 use native.Mathlib.Nat.{zero-add, not-suc-le-zero}
 use native.Mathlib.Numerals.{add-one}
 use native.Mathlib.Omega.{arith}
-use lib.ListN.{length, length-append, length-take, length-drop, length-map, length-replicate}
+use lib.ListN.{length, length-append, length-map}
 use Rattle.definitions.specs.Words.{_!_, from, part, pad}
 use Rattle.definitions.specs.Family.{BLAKE2b}
 use Rattle.definitions.specs.Hash.{Call, start, words, parameterBlock, keyed, calls}
-use Rattle.definitions.specs.Tree.{share, parameters}
-use Rattle.definitions.specs.Cases.{Question, chain, leaves, begin, Key, seen, summary, Holds, Case, table, Each}
-
-length-from : (i n : ℕ) → length (from i n) ≡ n
-length-from i zero = refl
-length-from i (suc n) = ap suc (length-from (suc i) n)
-
-length-part : (n : ℕ) (s : List ℕ) (i : ℕ) → length (part n s i) ≡ min n (length s - i * n)
-length-part n s i = simp (length-take, length-drop)
-
-length-pad : (n : ℕ) (s : List ℕ) → length s ≤ n → length (pad n s) ≡ n
-unfolding pad
-length-pad n s h = simp (length-append, length-replicate) (omega arith)
+use Rattle.definitions.specs.Tree.{share, leafData, parameters}
+use Rattle.definitions.proofs.Lengths.{length-from, length-part, length-pad}
+use Rattle.definitions.specs.Cases.{Question, chain, leaves, firstWords, Key, seen, summary, Holds, Case, table, Each}
 
 -- lengths alone
 abbrev head : Bool → ℕ
@@ -68,16 +58,16 @@ sizes k n = map (λ i. head k + sum (λ j. min 128 (n - (i + 4 * j) * 128)) (fro
 predicted : Question → List ℕ
 predicted (chain k n) = shape (head k + n)
 predicted (leaves k n) = sizes k n
-predicted (begin p places) = map (λ i. start BLAKE2b p ! i) places
+predicted (firstWords p places) = map (λ i. start BLAKE2b p ! i) places
 
 chain-holds : (k : Bool) (n : ℕ) (a : List ℕ) → shape (head k + n) ≡ a → Holds (chain k n) a
 chain-holds k n a e key m hk hm =
     summary-is (keyed BLAKE2b key m) ∙ ap shape (length-keyed k key m hk ∙ ap (λ (x : ℕ). head k + x) hm) ∙ e
 
 leaves-hold : (k : Bool) (n : ℕ) (a : List ℕ) → sizes k n ≡ a → Holds (leaves k n) a
-unfolding sizes share
+unfolding sizes share leafData
 leaves-hold k n a e key m hk hm =
-    map-same (λ i. length (keyed BLAKE2b key (share 128 4 m i))) (λ i. head k + sum (λ j. min 128 (length m - (i + 4 * j) * 128)) (from 0 (suc (length m / 512))))
+    map-same (λ i. length (leafData BLAKE2b 4 key m i)) (λ i. head k + sum (λ j. min 128 (length m - (i + 4 * j) * 128)) (from 0 (suc (length m / 512))))
     (λ i. length-keyed k key (share 128 4 m i) hk
     ∙ ap (λ (x : ℕ). head k + x) (length-flat (λ j. part 128 m (i + 4 * j)) (λ j. min 128 (length m - (i + 4 * j) * 128)) (λ j. length-part 128 m (i + 4 * j)) (from 0 (suc (length m / 512)))))
     (from 0 4)
@@ -87,7 +77,7 @@ sound : (q : Question) (a : List ℕ) → predicted q ≡ a → Holds q a
 unfolding predicted
 sound (chain k n) a e = chain-holds k n a e
 sound (leaves k n) a e = leaves-hold k n a e
-sound (begin p places) a e = e
+sound (firstWords p places) a e = e
 
 first : Case → List (List ℕ) → List ℕ
 first c [] = c .answer

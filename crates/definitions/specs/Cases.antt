@@ -8,7 +8,7 @@ use lib.ListN.{length}
 use Rattle.definitions.specs.Words.{_!_, from}
 use Rattle.definitions.specs.Family.{BLAKE2b}
 use Rattle.definitions.specs.Hash.{Parameters, Call, sequential, start, keyed, calls}
-use Rattle.definitions.specs.Tree.{share, parameters}
+use Rattle.definitions.specs.Tree.{leafData, parameters}
 
 pub data Question : Type 0 where
   -- BLAKE2b, of a message of n bytes, with a key or not: how many calls of F, the last one's count and its block's bytes
@@ -16,7 +16,7 @@ pub data Question : Type 0 where
   -- BLAKE2bp: the bytes that each leaf hashes
   leaves : Bool → ℕ → Question
   -- the words of the first state at these places
-  begin : Parameters → List ℕ → Question
+  firstWords : Parameters → List ℕ → Question
 
 -- a key, or none
 abbrev pub Key : Bool → List ℕ → Type 0
@@ -32,8 +32,8 @@ summary cs = length cs ∷ foldl seen [] cs
 
 abbrev pub Holds : Question → List ℕ → Type 0
 Holds (chain k n) a = (key m : List ℕ) → Key k key → length m ≡ n → summary (calls BLAKE2b false (keyed BLAKE2b key m)) ≡ a
-Holds (leaves k n) a = (key m : List ℕ) → Key k key → length m ≡ n → map (λ i. length (keyed BLAKE2b key (share 128 4 m i))) (from 0 4) ≡ a
-Holds (begin p places) a = map (λ i. start BLAKE2b p ! i) places ≡ a
+Holds (leaves k n) a = (key m : List ℕ) → Key k key → length m ≡ n → map (λ i. length (leafData BLAKE2b 4 key m i)) (from 0 4) ≡ a
+Holds (firstWords p places) a = map (λ i. start BLAKE2b p ! i) places ≡ a
 
 pub record Case : Type 0 where
   pub question : Question
@@ -59,8 +59,8 @@ table =
     ∷ (leaves true 0 gives 128 ∷ 128 ∷ 128 ∷ 128 ∷ [])  -- L
     ∷ (leaves true 1 gives 129 ∷ 128 ∷ 128 ∷ 128 ∷ [])  -- M
     ∷ (leaves false 1025 gives 257 ∷ 256 ∷ 256 ∷ 256 ∷ [])  -- N
-    ∷ (begin (sequential 64 0) (0 ∷ []) gives 0x6A09E667F2BDC948 ∷ [])  -- O
-    ∷ (begin (parameters BLAKE2b 4 64 0 0 0) (0 ∷ 2 ∷ []) gives 0x6A09E667F1B8C948 ∷ 0x3C6EF372FE94B82B ∷ [])  -- P
+    ∷ (firstWords (sequential 64 0) (0 ∷ []) gives 0x6A09E667F2BDC948 ∷ [])  -- O
+    ∷ (firstWords (parameters BLAKE2b 4 64 0 0 0) (0 ∷ 2 ∷ []) gives 0x6A09E667F1B8C948 ∷ 0x3C6EF372FE94B82B ∷ [])  -- P
     ∷ []
 
 abbrev pub Each : List Case → Type 0

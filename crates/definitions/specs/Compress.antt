@@ -59,7 +59,7 @@ module _ (f : Family) where
   ones up = cond up (2 ^ w - 1) 0
 
   -- section 3.2: h is the state, m the sixteen words of a block, t the count of bytes, below 2 ^ (2 w); last: it is the last block;
-  -- node: it is the last block of the last node of its layer (the paper, "Finalization flags"). Each xor has its constant second
+  -- node: it is the last block of the last node of its layer (the paper, "Minimal padding and finalization flags"). Each xor has its constant second
   unfoldable pub F : List ℕ → List ℕ → ℕ → Bool → Bool → List ℕ
   F h m t last node =
       let v : List ℕ = roundsTo rounds m

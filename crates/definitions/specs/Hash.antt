@@ -45,6 +45,7 @@ pub record Call : Type 0 where
 module _ (f : Family) where
   open Family f using (ww, bb, IV, offsetBytes, reserved, saltBytes)
 
+  -- section 2.5 and the paper's tables; numbers are little-endian
   unfoldable pub parameterBlock : Parameters → List ℕ
   parameterBlock p =
       (p .digestLength ∷ p .keyLength ∷ p .fanout ∷ p .depth ∷ [])
@@ -63,12 +64,12 @@ module _ (f : Family) where
   unfoldable pub start : Parameters → List ℕ
   start p = let x : List ℕ = words 8 (parameterBlock p) in map (λ i. x ! i ⊕ IV ! i) (from 0 8)
 
-  -- what is hashed: the message, behind a block of the key where there is one
+  -- section 3.3: what is hashed: the message, behind a block of the key where there is one
   unfoldable pub keyed : List ℕ → List ℕ → List ℕ
   keyed [] m = m
   keyed (k ∷ key) m = pad bb (k ∷ key) ++ m
 
-  -- the calls of F for the bytes d: full blocks, then the last; no bytes are one block of padding. A count has no padding in it
+  -- section 3.3: the calls of F for the bytes d: full blocks, then the last; no bytes are one block of padding. A count has no padding in it
   unfoldable pub calls : Bool → List ℕ → List Call
   calls node d =
       let n : ℕ = (length d - 1) / bb in
@@ -78,9 +79,17 @@ module _ (f : Family) where
   unfoldable pub compress : List ℕ → Call → List ℕ
   compress h c = F f h (words 16 (pad bb (c .block))) (c .count) (c .last) (c .node)
 
-  -- the last state, as bytes; node: this is the last node of its layer
+  -- the bytes of a state, little-endian
+  unfoldable pub stateBytes : List ℕ → List ℕ
+  stateBytes h = flatMap (bytes ww) h
+
+  -- the last state's bytes; node: this is the last node of its layer
   unfoldable pub untruncated : Parameters → Bool → List ℕ → List ℕ
-  untruncated p node d = flatMap (bytes ww) (foldl compress (start p) (calls node d))
+  untruncated p node d = stateBytes (foldl compress (start p) (calls node d))
 
   unfoldable pub hash : Parameters → Bool → List ℕ → List ℕ → List ℕ
   hash p node key m = take (p .digestLength) (untruncated p node (keyed key m))
+
+  -- section 3.3's BLAKE2: n bytes of digest, no tree
+  abbrev pub blake2 : ℕ → List ℕ → List ℕ → List ℕ
+  blake2 n key m = hash (sequential n (length key)) false key m

@@ -32,8 +32,12 @@ module _ (f : Family) (n : ℕ) where
     personal = [];
   }
 
+  -- what leaf i hashes: the key block where there is a key, and its share
+  unfoldable pub leafData : List ℕ → List ℕ → ℕ → List ℕ
+  leafData key m i = keyed f key (share bb n m i)
+
   unfoldable pub leaf : ℕ → List ℕ → List ℕ → ℕ → List ℕ
-  leaf d key m i = untruncated f (parameters d (length key) i 0) (eqb (suc i) n) (keyed f key (share bb n m i))
+  leaf d key m i = untruncated f (parameters d (length key) i 0) (eqb (suc i) n) (leafData key m i)
 
   -- the root hashes the leaves' whole states, and no key block: here too the paper is silent and the crate decides
   unfoldable pub parallel : ℕ → List ℕ → List ℕ → List ℕ

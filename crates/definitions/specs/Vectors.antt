@@ -1,14 +1,14 @@
--- Published digests, and states after one call of F, computed by the checker from the definitions. tests/vectors/make prints the values,
--- from the designers' answers, libb2 and Python's hashlib. Assumes nothing.
+-- Digests, and states after one call of F, computed by the checker from the definitions, and what others say they are: the designers'
+-- published answers, libb2 and Python's hashlib, as tests/vectors/make prints them. Assumes nothing.
 use mathlib.Core.Path.{_≡_, refl, sym, _∙_}
 use mathlib.Core.Bool.{Bool, true, false}
 use mathlib.Core.List.{List, [], _∷_, _++_, map, flatMap, foldl, map-append}
-use Prim.Native.Nat.{ℕ, _+_, _*_, _^_}
-use Rattle.definitions.specs.Words.{rotr, from, bytes, pad}
+use Prim.Native.Nat.{ℕ, _+_, _*_, _%_, _^_}
+use Rattle.definitions.specs.Words.{rotr, from, pad}
 use Rattle.definitions.specs.Family.{Family, BLAKE2b, BLAKE2s}
 use Rattle.definitions.specs.Compress.{SIGMA, G, round, roundsTo, ones, F}
-use Rattle.definitions.specs.Hash.{Parameters, sequential, parameterBlock, start, words, keyed, calls, compress, untruncated, hash}
-use Rattle.definitions.specs.Tree.{share, parameters, leaf, parallel, BLAKE2bp, BLAKE2sp}
+use Rattle.definitions.specs.Hash.{Parameters, sequential, parameterBlock, start, words, keyed, calls, compress, stateBytes, untruncated, hash, blake2}
+use Rattle.definitions.specs.Tree.{share, leafData, parameters, leaf, parallel, BLAKE2bp, BLAKE2sp}
 
 -- bytes as they are printed, the first one first
 abbrev pub printed : List ℕ → ℕ
@@ -16,6 +16,10 @@ printed = foldl (λ n x. n * 256 + x) 0
 
 abbrev pub abc : List ℕ
 abc = 0x61 ∷ 0x62 ∷ 0x63 ∷ []
+
+-- n bytes: 0, 1, .., 255, 0 and so on
+abbrev pub counting : ℕ → List ℕ
+counting n = map (λ i. i % 256) (from 0 n)
 
 -- 20 bytes, a key of 16, and salt and personalization of these lengths
 abbrev pub salted : ℕ → ℕ → Parameters
@@ -51,9 +55,9 @@ inner n offset s p = record {
 -- the last block, at a count of two words
 abbrev pub called : Family → Bool → ℕ → ℕ → List ℕ
 called f node high low =
-    flatMap (bytes (f .ww)) (F f (start f (sequential (8 * f .ww) 0)) (words f 16 (from 0 (f .bb))) (high * 2 ^ f .w + low) true node)
+    stateBytes f (F f (start f (sequential (8 * f .ww) 0)) (words f 16 (from 0 (f .bb))) (high * 2 ^ f .w + low) true node)
 
--- what is computed, and what is published
+-- what is computed, and what others say
 pub record Vector : Type 0 where
   pub computed : List ℕ
   pub published : ℕ
@@ -65,9 +69,9 @@ d is n = record { computed = d; published = n }
 -- the first is RFC 7693's appendix A
 unfoldable pub vectors-b : List Vector
 vectors-b =
-    (hash BLAKE2b (sequential 64 0) false [] abc is 0xba80a53f981c4d0d6a2797b69f12f6e94c212f14685ac4b74b12bb6fdbffa2d17d87c5392aab792dc252d5de4533cc9518d38aa8dbf1925ab92386edd4009923)
-    ∷ (hash BLAKE2b (sequential 64 0) false [] (from 0 129) is 0xf59711d44a031d5f97a9413c065d1e614c417ede998590325f49bad2fd444d3e4418be19aec4e11449ac1a57207898bc57d76a1bcf3566292c20c683a5c4648f)
-    ∷ (hash BLAKE2b (sequential 64 64) false (from 0 64) (from 0 255) is 0x142709d62e28fcccd0af97fad0f8465b971e82201dc51070faa0372aa43e92484be1c1e73ba10906d5d1853db6a4106e0a7bf9800d373d6dee2d46d62ef2a461)
+    (blake2 BLAKE2b 64 [] abc is 0xba80a53f981c4d0d6a2797b69f12f6e94c212f14685ac4b74b12bb6fdbffa2d17d87c5392aab792dc252d5de4533cc9518d38aa8dbf1925ab92386edd4009923)
+    ∷ (blake2 BLAKE2b 64 [] (from 0 129) is 0xf59711d44a031d5f97a9413c065d1e614c417ede998590325f49bad2fd444d3e4418be19aec4e11449ac1a57207898bc57d76a1bcf3566292c20c683a5c4648f)
+    ∷ (blake2 BLAKE2b 64 (from 0 64) (from 0 255) is 0x142709d62e28fcccd0af97fad0f8465b971e82201dc51070faa0372aa43e92484be1c1e73ba10906d5d1853db6a4106e0a7bf9800d373d6dee2d46d62ef2a461)
     ∷ (hash BLAKE2b (salted 16 8) false (from 0 16) abc is 0x9f034ee26e0c38784dcb4f01243de99778221aeb)
     ∷ (hash BLAKE2b (inner 64 0x05060708090a0b0c 16 8) true [] abc is 0x488853bf0f02d481f27d7dff05ac5f637d86ca0408e8c5072f97bf03b28eeb301f27f307c6d287e4471c8ff42259d8bd69eea5d83ac9cfb485025b7e837f55c3)
     ∷ (called BLAKE2b false 5 131 is 0xcf23a404f047ca07ec2f65104ab3a486a878d49dad9dac33c0491bd510153e2af187c97965b12ce33bc70a3d7ec838479195ec87953cb6da40cecadf5e5c07a0)
@@ -79,9 +83,9 @@ vectors-b =
 -- the first is its appendix B
 unfoldable pub vectors-s : List Vector
 vectors-s =
-    (hash BLAKE2s (sequential 32 0) false [] abc is 0x508c5e8c327c14e2e1a72ba34eeb452f37458b209ed63a294d999b4c86675982)
-    ∷ (hash BLAKE2s (sequential 32 0) false [] (from 0 65) is 0x1b53ee94aaf34e4b159d48de352c7f0661d0a40edff95a0b1639b4090e974472)
-    ∷ (hash BLAKE2s (sequential 32 32) false (from 0 32) (from 0 255) is 0x3fb735061abc519dfe979e54c1ee5bfad0a9d858b3315bad34bde999efd724dd)
+    (blake2 BLAKE2s 32 [] abc is 0x508c5e8c327c14e2e1a72ba34eeb452f37458b209ed63a294d999b4c86675982)
+    ∷ (blake2 BLAKE2s 32 [] (from 0 65) is 0x1b53ee94aaf34e4b159d48de352c7f0661d0a40edff95a0b1639b4090e974472)
+    ∷ (blake2 BLAKE2s 32 (from 0 32) (from 0 255) is 0x3fb735061abc519dfe979e54c1ee5bfad0a9d858b3315bad34bde999efd724dd)
     ∷ (hash BLAKE2s (salted 8 4) false (from 0 16) abc is 0x0c48e2fdaafbfc65778666737864d9d8e9d2b244)
     ∷ (hash BLAKE2s (inner 32 0x05060708090a 8 4) true [] abc is 0xc14066638ba21fc3d00e568b8919ad96eb8544603f80c71d0722c9a74f8ce86a)
     ∷ (called BLAKE2s false 5 67 is 0x5bab45cd70b2b40073fbac0996b49667df561feda04f27428bdfb76221ee35d9)
@@ -90,8 +94,15 @@ vectors-s =
     ∷ (BLAKE2sp 32 (from 0 32) (from 0 255) is 0x0c8a36597d7461c63a94732821c941856c668376606c86a52de0ee4104c615db)
     ∷ []
 
+-- more than a row of blocks, a block dealt in part, and a digest that is not a whole state
+unfoldable pub vectors-rows : List Vector
+vectors-rows =
+    (BLAKE2bp 20 (from 0 16) (counting 641) is 0xb366c03b5494af13a563c7606da429219eb1c867)
+    ∷ (BLAKE2sp 20 (from 0 16) (counting 577) is 0x69b6b40472486159611dd31f5c2e9caca6a79f94)
+    ∷ []
+
 unfoldable pub vectors : List Vector
-vectors = vectors-b ++ vectors-s
+vectors = vectors-b ++ (vectors-s ++ vectors-rows)
 
 unfoldable results : List Vector → List ℕ
 results t = map (λ v. printed (v .computed)) t
@@ -100,15 +111,23 @@ unfoldable published : List Vector → List ℕ
 published t = map (λ v. v .published) t
 
 agree-b : results vectors-b ≡ published vectors-b
-unfolding results published vectors-b SIGMA G rotr round roundsTo ones F start words parameterBlock pad keyed calls compress untruncated hash flatMap share parameters leaf parallel
+unfolding results published vectors-b SIGMA G rotr round roundsTo ones F start words parameterBlock pad keyed calls compress stateBytes untruncated hash flatMap share leafData parameters leaf parallel
 agree-b = refl
 
 agree-s : results vectors-s ≡ published vectors-s
-unfolding results published vectors-s SIGMA G rotr round roundsTo ones F start words parameterBlock pad keyed calls compress untruncated hash flatMap share parameters leaf parallel
+unfolding results published vectors-s SIGMA G rotr round roundsTo ones F start words parameterBlock pad keyed calls compress stateBytes untruncated hash flatMap share leafData parameters leaf parallel
 agree-s = refl
+
+agree-rows : results vectors-rows ≡ published vectors-rows
+unfolding results published vectors-rows SIGMA G rotr round roundsTo ones F start words parameterBlock pad keyed calls compress stateBytes untruncated hash flatMap share leafData parameters leaf parallel
+agree-rows = refl
+
+-- a list is computed in parts: one of them all would pass the checker's limit
+joined : (s t : List Vector) → results s ≡ published s → results t ≡ published t → results (s ++ t) ≡ published (s ++ t)
+unfolding results published
+joined s t e f =
+    map-append (λ (v : Vector). printed (v .computed)) s t ∙ (λ i. e i ++ f i) ∙ sym (map-append (λ (v : Vector). v .published) s t)
 
 pub agree : map (λ v. printed (v .computed)) vectors ≡ map (λ v. v .published) vectors
 unfolding results published vectors
-agree =
-    map-append (λ (v : Vector). printed (v .computed)) vectors-b vectors-s ∙ (λ i. agree-b i ++ agree-s i)
-    ∙ sym (map-append (λ (v : Vector). v .published) vectors-b vectors-s)
+agree = joined vectors-b (vectors-s ++ vectors-rows) agree-b (joined vectors-s vectors-rows agree-s agree-rows)

@@ -1,10 +1,11 @@
-// What a program in C or Rust links: the block loop, on numbers and lent bytes.
+// What a program in C or Rust links: the block loop and the bytes of a state, on numbers and lent bytes.
 // Test code: safe by proof, with no promise of its own. It has one caller of compress_block, the loop, as the library has: a second
 // one would keep the compiler from inlining it.
 use portable::Finalize;
 use portable::LastNode;
 use portable::Stride;
 use portable::compress1_loop;
+use portable::write_words;
 ghost use Prim.Native.Nat.{_+_, _<_, _^_};
 ghost use lib.ListN.{length};
 
@@ -46,4 +47,11 @@ pub extern "C" fn sumpillow_compress1_loop(
     );
     let next = run.words;
     *words = next;
+}
+
+#[no_mangle]
+pub extern "C" fn sumpillow_write_words(words: &[u64; 8], out: &mut [u8; 64]) {
+    let h = *words;
+    let bytes = write_words(h);
+    *out = bytes;
 }

@@ -2,7 +2,7 @@
 -- Assumes nothing.
 use mathlib.Core.Path.{_≡_, refl, sym, ap, _∙_}
 use mathlib.Core.List.{List, [], _∷_, _++_, flatMap, append-nil}
-use Prim.Native.Nat.{ℕ, zero, suc, _+_, _-_, _*_, _/_, _%_, _^_, _<_, _≤_}
+use Prim.Native.Nat.{ℕ, zero, suc, _+_, _-_, _*_, _/_, _%_, _^_, _<_}
 use native.Mathlib.Nat.{zero-add, not-suc-le-zero, le-of-suc-le-suc, pow-suc, pow-le-pow-right, div-one, lt-of-lt-of-le, zero-mul, suc-mul, add-assoc, add-comm, sub-self}
 use native.Mathlib.Numerals.{add-one}
 use native.Mathlib.Omega.{arith}
@@ -13,6 +13,7 @@ use lib.Seq.{drop-cons, getD-append-add, length-take-le, set-at, append-snoc, ta
 use Rattle.definitions.specs.Words.{_!_, word, bytes, part, pad}
 use Rattle.definitions.specs.Family.{Family}
 use Rattle.definitions.specs.Hash.{words}
+use Rattle.laws.specs.Chain.{zeros}
 use Rattle.laws.proofs.Lists.{by-places}
 
 -- a byte before others: the others' word times 256, and it
@@ -78,9 +79,9 @@ pad-more n b i h g =
     ∙ (λ j. sym (take-suc b i 0 h) j ++ replicate (n - sym m j) 0)
     ∙ ap (λ (k : ℕ). take k b ++ replicate (n - length (take k b)) 0) (sym (add-one i))
 
-pub length-padded : (n : ℕ) (b : List ℕ) → length b ≤ n → length (pad n b) ≡ n
-unfolding pad
-length-padded n b h = simp (length-append, length-replicate) (omega arith)
+pub length-zeros : (n : ℕ) → length (zeros n) ≡ n
+unfolding zeros
+length-zeros n = length-replicate n 0
 
 pub pad-whole : (n : ℕ) (b : List ℕ) → length b ≡ n → pad n b ≡ b
 unfolding pad

@@ -2,14 +2,15 @@
 -- of n leaves of a leaf's share. For any family. Assumes nothing.
 use mathlib.Core.Path.{_≡_, refl, ap, _∙_}
 use mathlib.Core.Bool.{Bool, true, false}
-use mathlib.Core.List.{List, [], _∷_, map, flatMap, foldl, foldl-append}
-use Prim.Native.Nat.{ℕ, zero, suc, _+_, _-_, _*_, _≤_, _<_}
-use native.Mathlib.Nat.{add-zero, zero-add, mul-comm, le-refl}
+use mathlib.Core.List.{List, [], _∷_, map, foldl, foldl-append}
+use Prim.Native.Nat.{ℕ, zero, suc, _+_, _-_, _*_, _/_, _%_, _^_, _≤_, _<_}
+use native.Mathlib.Nat.{add-zero, zero-add, add-comm, mul-comm, le-refl, div-add-mod'}
 use native.Mathlib.Omega.{arith}
 use lib.ListN.{length, take, drop, length-drop, length-take}
-use Rattle.definitions.specs.Words.{from, part, bytes}
+use Rattle.definitions.specs.Words.{from, part, pad}
 use Rattle.definitions.specs.Family.{Family}
-use Rattle.definitions.specs.Hash.{Parameters, Call, start, calls, compress, untruncated}
+use Rattle.definitions.specs.Compress.{F}
+use Rattle.definitions.specs.Hash.{Parameters, Call, words, start, calls, compress, stateBytes, untruncated}
 use Rattle.definitions.specs.Tree.{share}
 use Rattle.laws.specs.Chain.{spare, blockAt, absorb, ended, through}
 use Rattle.laws.specs.Blocks.{onBytes, throughBlocks}
@@ -20,6 +21,14 @@ use Rattle.laws.proofs.Shares.{through-share}
 fold-last : {A C : Type 0} (g : A → C → A) (c : ℕ → C) (h : A) (i k : ℕ) → foldl g h (map c (from i (suc k))) ≡ g (foldl g h (map c (from i k))) (c (i + k))
 fold-last g c h i zero = rw add-zero
 fold-last g c h i (suc k) = let e : suc i + k ≡ i + suc k = omega arith in rw (← e) (fold-last g c (g h (c i)) (suc i) k)
+
+-- a compression of code, on a block that was padded and at a count in two words
+pub compressed-on-bytes : (f : Family) (h b : List ℕ) {t u lo hi : ℕ} {x r : List ℕ} {l m last node : Bool} → lo ≡ t % 2 ^ f .w → hi ≡ t / 2 ^ f .w → t ≡ u → x ≡ pad (f .bb) b
+    → l ≡ last → m ≡ node → r ≡ F f h (words f 16 x) (lo + hi * 2 ^ f .w) l m → r ≡ onBytes f h b u last node
+unfolding onBytes compress
+compressed-on-bytes f h b {t} {u} {lo} {hi} p q g e k j z =
+    let s : lo + hi * 2 ^ f .w ≡ u = rw (p, q) (add-comm (t % 2 ^ f .w) (t / 2 ^ f .w * 2 ^ f .w) ∙ div-add-mod' t (2 ^ f .w) ∙ g) in
+    z ∙ (λ i. F f h (words f 16 (e i)) (s i) (k i) (j i))
 
 module _ (f : Family) (some : 0 < f .bb) where
   open Family f using (bb)
@@ -56,9 +65,9 @@ module _ (f : Family) (some : 0 < f .bb) where
 
   -- the untruncated digest is the chain's last state
   pub untruncated-through : (p : Parameters) (node : Bool) (d : List ℕ)
-      → untruncated f p node d ≡ flatMap (bytes (f .ww)) (throughBlocks f bb (start f p) 0 true node d)
+      → untruncated f p node d ≡ stateBytes f (throughBlocks f bb (start f p) 0 true node d)
   unfolding untruncated
-  untruncated-through p node d = ap (flatMap (bytes (f .ww))) (calls-through (start f p) node d)
+  untruncated-through p node d = ap (stateBytes f) (calls-through (start f p) node d)
 
   -- at the stride of n leaves, from leaf i's first block on, the chain is the RFC's list of calls of that leaf's share
   pub share-calls-through : (n : ℕ) → 0 < n → (h : List ℕ) (node : Bool) (m : List ℕ) (i : ℕ)

@@ -10,7 +10,7 @@ use lib.ListN.{getD, length}
 use Rattle.definitions.specs.Words.{_!_}
 use Rattle.definitions.specs.Family.{Family}
 use Rattle.definitions.specs.Compress.{SIGMA, G, round, roundsTo, ones, F}
-use Rattle.laws.specs.Halves.{ordered, mixed, columnsOf, diagonalsOf, begin, foldHalves}
+use Rattle.laws.specs.Halves.{ordered, mixed, columnsOf, diagonalsOf, initial, foldHalves}
 use Rattle.laws.proofs.Lists.{by-front}
 
 module _ (f : Family) where
@@ -54,10 +54,10 @@ module _ (f : Family) where
 
   -- F from its pieces, at a count of two words
   pub F-is : (h m : List ℕ) {v v0 r : List ℕ} (lo hi : ℕ) (last node : Bool) → lo < 2 ^ w
-      → v0 ≡ begin f h lo hi (ones f last) (ones f node) → v ≡ roundsTo f rounds m v0 → r ≡ foldHalves h v
+      → v0 ≡ initial f h lo hi (ones f last) (ones f node) → v ≡ roundsTo f rounds m v0 → r ≡ foldHalves h v
       → r ≡ F f h m (lo + hi * 2 ^ w) last node
-  unfolding F begin foldHalves
+  unfolding F initial foldHalves
   F-is h m lo hi last node b p q e =
       let l : lo ≡ (lo + hi * 2 ^ w) % 2 ^ w = sym (low hi w b) ∙ ap (λ (n : ℕ). n % 2 ^ w) (add-comm (hi * 2 ^ w) lo) in
       let u : hi ≡ (lo + hi * 2 ^ w) / 2 ^ w = sym (high hi w b) ∙ ap (λ (n : ℕ). n / 2 ^ w) (add-comm (hi * 2 ^ w) lo) in
-      e ∙ ap (foldHalves h) (q ∙ ap (roundsTo f rounds m) (p ∙ (λ i. begin f h (l i) (u i) (ones f last) (ones f node))))
+      e ∙ ap (foldHalves h) (q ∙ ap (roundsTo f rounds m) (p ∙ (λ i. initial f h (l i) (u i) (ones f last) (ones f node))))

@@ -7,3 +7,4 @@ pub mod Rows
 pub mod Chains
 pub mod Shares
 pub mod Calls
+pub mod Offsets

@@ -10,10 +10,6 @@ use lib.ListN.{length, drop, drop-of-length-le, set}
 use lib.Seq.{drop-cons, getD-set-same, getD-set-other}
 use Rattle.definitions.specs.Words.{_!_, from}
 
-pub length-from : (i n : ℕ) → length (from i n) ≡ n
-length-from i zero = refl
-length-from i (suc n) = ap suc (length-from (suc i) n)
-
 drop-from : (n i : ℕ) (l : List ℕ) (g : ℕ → ℕ) → length l ≡ i + n → ((k : ℕ) → k < i + n → l ! k ≡ g k) → drop i l ≡ map g (from i n)
 drop-from zero i l g e h = drop-of-length-le l {i = i} (omega arith)
 drop-from (suc n) i l g e h =
@@ -40,11 +36,11 @@ set-more l i x g b e h k c =
     (eq-or-lt-of-le (le-of-suc-le-suc c))
 
 module _ {A : Type 0} where
-  headOr : A → List A → A
+  unfoldable pub headOr : A → List A → A
   headOr x [] = x
   headOr x (y ∷ l) = y
 
-  rest : List A → List A
+  unfoldable pub rest : List A → List A
   rest [] = []
   rest (x ∷ l) = l
 

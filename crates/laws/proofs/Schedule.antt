@@ -8,7 +8,7 @@ use lib.Dec.{T, ltb, ltb→lt, lit<}
 use lib.ListN.{length}
 use Rattle.definitions.specs.Words.{_!_, from}
 use Rattle.laws.specs.Halves.{times, Order}
-use Rattle.laws.proofs.Lists.{each}
+use Rattle.laws.proofs.Lists.{headOr, rest, each}
 
 -- all numbers of s are below 16
 abbrev pub all-below : List ℕ → Bool
@@ -35,15 +35,7 @@ tally s = length s ∷ map (λ k. times k s) (from 0 16)
 unfoldable pub ideal : List ℕ
 ideal = 16 ∷ map (λ k. 1) (from 0 16)
 
-first : List ℕ → ℕ
-first [] = 0
-first (x ∷ l) = x
-
-tail : List ℕ → List ℕ
-tail [] = []
-tail (x ∷ l) = l
-
 -- the test: both premises are computed
 pub order : (s : List ℕ) → T (all-below s) → tally s ≡ ideal → Order s
-unfolding tally ideal first tail
-order s t e = record { sixteen = ap first e; below = below-each s t; once = each (λ k. times k s) (λ k. 1) 16 (ap tail e) }
+unfolding tally ideal headOr rest
+order s t e = record { sixteen = ap (headOr 0) e; below = below-each s t; once = each (λ k. times k s) (λ k. 1) 16 (ap rest e) }

@@ -3,7 +3,11 @@
 use mathlib.Core.Bool.{Bool, false}
 use mathlib.Core.List.{List}
 use Prim.Native.Nat.{ℕ, zero, suc, _+_, _-_, _*_, _/_}
-use lib.ListN.{length, take, drop}
+use lib.ListN.{length, take, drop, replicate}
+
+-- n zeros, shut: a thousand of them would be written out
+unfoldable pub zeros : ℕ → List ℕ
+zeros n = replicate n 0
 
 -- of n bytes, how many whole rows of st bytes may go so that more than `need` bytes stay
 unfoldable pub spare : ℕ → ℕ → ℕ → ℕ

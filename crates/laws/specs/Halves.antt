@@ -53,6 +53,6 @@ module _ (f : Family) where
       G f v3 3 4 9 14 (x ! 14) (x ! 15)
 
   -- the sixteen words before the first round: the state, then IV with the two words of the count and the two flag words
-  unfoldable pub begin : List ℕ → ℕ → ℕ → ℕ → ℕ → List ℕ
-  begin h lo hi f0 f1 =
+  unfoldable pub initial : List ℕ → ℕ → ℕ → ℕ → ℕ → List ℕ
+  initial h lo hi f0 f1 =
       h ++ (IV ! 0 ∷ IV ! 1 ∷ IV ! 2 ∷ IV ! 3 ∷ lo ⊕ IV ! 4 ∷ hi ⊕ IV ! 5 ∷ f0 ⊕ IV ! 6 ∷ f1 ⊕ IV ! 7 ∷ [])

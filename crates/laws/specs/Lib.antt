@@ -1,3 +1,4 @@
 pub mod Halves
 pub mod Chain
 pub mod Blocks
+pub mod Offsets

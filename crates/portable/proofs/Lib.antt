@@ -1,1 +1,2 @@
-pub mod BlockAt
+pub mod Facts
+pub mod Meaning

@@ -1,11 +1,11 @@
 -- What the enums of guts.rs stand for, and the block at an offset of the input: document 01, module 1.
 -- Assumes nothing.
-use mathlib.Core.Bool.{Bool, true, false, cond}
+use mathlib.Core.Bool.{Bool, true, false}
 use mathlib.Core.List.{List}
-use Prim.Native.Nat.{ℕ, min}
-use lib.Dec.{leb, ltb}
-use lib.ListN.{length, take, drop}
-use Rattle.definitions.specs.Words.{pad}
+use Prim.Native.Nat.{ℕ, _*_, min}
+use lib.Dec.{leb}
+use lib.ListN.{length, drop}
+use Rattle.definitions.specs.Family.{BLAKE2b}
 use Rattle.portable.specs.declared.guts.Finalize.{Finalize}
 use Rattle.portable.specs.declared.guts.Finalize.the-variants as finalize
 use Rattle.portable.specs.declared.guts.LastNode.{LastNode}
@@ -22,18 +22,10 @@ abbrev pub isLastNode : LastNode → Bool
 isLastNode lastNode.Yes = true
 isLastNode lastNode.No = false
 
--- the bytes from one block of a run to the next: of four leaves, each has every fourth block
+-- the bytes from one block of a run to the next: of BLAKE2bp's four leaves, each has every fourth block
 abbrev pub paddedBlockbytes : Stride → ℕ
-paddedBlockbytes Serial = 128
-paddedBlockbytes Parallel = 512
-
--- the buffer once it was padded: what is left of the input d, where that is less than a block, and zeros; else as it was
-unfoldable pub paddedBuffer : List ℕ → ℕ → List ℕ → List ℕ
-paddedBuffer d offset buffer = cond (ltb (length (drop offset d)) 128) (pad 128 (drop offset d)) buffer
-
--- the block: the buffer where less than a block is left, else the input's own bytes
-unfoldable pub finalBlock : List ℕ → ℕ → List ℕ → List ℕ
-finalBlock d offset buffer = cond (ltb (length (drop offset d)) 128) buffer (take 128 (drop offset d))
+paddedBlockbytes Serial = BLAKE2b .bb
+paddedBlockbytes Parallel = 4 * BLAKE2b .bb
 
 -- the input's bytes in the block, and whether the next block would start past the end
 unfoldable pub finalFacts : List ℕ → ℕ → Stride → FinalFacts

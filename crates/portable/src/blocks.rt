@@ -1,4 +1,5 @@
 // The loop over the blocks of an input, serial or at a leaf's stride.
+// Its one contract covers both strides, finalizing or not.
 use crate::compress::compress_block;
 use crate::guts::Finalize;
 use crate::guts::LastNode;
@@ -42,7 +43,7 @@ fn final_offset(n: usize, row: usize) -> usize
 }
 
 // The blocks of the input at each multiple of the stride, the last of them padded, and flagged where it finalizes. The one call of
-// compress_block serves the last block and all others: a second call would cost a twentieth of the time.
+// compress_block serves the last block and all others, so that the compiler inlines it.
 pub fn compress1_loop(
     input: &[u8],
     words: [u64; 8],

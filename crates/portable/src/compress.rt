@@ -1,4 +1,5 @@
 // F of RFC 7693: the mixing function, the twelve rounds and the compression of a block.
+// Sums wrap on purpose: the RFC's are modulo 2^64.
 use crate::guts::flag_word;
 use crate::words::read_words;
 use std::num::wrapping_add_u64;
@@ -9,7 +10,7 @@ ghost use Rattle.definitions.specs.Words.{rotr, _!_};
 ghost use Rattle.definitions.specs.Family.{BLAKE2b};
 ghost use Rattle.definitions.specs.Compress.{roundsTo, F};
 ghost use Rattle.definitions.specs.Hash as Hash;
-ghost use Rattle.laws.specs.Halves.{Order, ordered, mixed, columnsOf, diagonalsOf, begin, foldHalves};
+ghost use Rattle.laws.specs.Halves.{Order, ordered, mixed, columnsOf, diagonalsOf, initial, foldHalves};
 ghost use Rattle.portable.specs.Quads.{listed};
 
 const IV: [u64; 8] = [
@@ -203,7 +204,7 @@ fn rounds(v0: [u64; 16], m: &[u64; 16]) -> [u64; 16]
 
 // The sixteen words before the first round.
 fn start(h: [u64; 8], count_low: u64, count_high: u64, last: u64, node: u64) -> [u64; 16]
-    ensures { λ r. ⌜ r ≡ begin BLAKE2b h «count_low» «count_high» last node ⌝ }
+    ensures { λ r. ⌜ r ≡ initial BLAKE2b h «count_low» «count_high» last node ⌝ }
 {
     [
         h[0],

@@ -1,11 +1,14 @@
 // The helpers of guts.rs: what a run of the block loop is told, the words of a count and of a flag, and the block at an offset.
+// A block is made ready, then handed back, and its facts are asked for: three calls for the Rust's one.
 ghost use mathlib.Core.Path.{_≡_};
 ghost use Prim.Native.Nat.{_/_, _%_, _^_, _≤_};
-ghost use lib.ListN.{length, drop, replicate};
+ghost use lib.ListN.{length, drop};
 ghost use Rattle.definitions.specs.Words.{pad};
 ghost use Rattle.definitions.specs.Family.{BLAKE2b};
 ghost use Rattle.definitions.specs.Compress.{ones};
-ghost use Rattle.portable.specs.Guts.{finalizes, isLastNode, paddedBlockbytes, paddedBuffer, finalBlock, finalFacts};
+ghost use Rattle.laws.specs.Chain.{zeros};
+ghost use Rattle.laws.specs.Offsets.{paddedBuffer, finalBlock};
+ghost use Rattle.portable.specs.Guts.{finalizes, isLastNode, paddedBlockbytes, finalFacts};
 
 pub enum Finalize {
     Yes,
@@ -90,7 +93,7 @@ fn offset_slice<'a>(input: &'a [u8], offset: usize) -> &'a [u8]
 }
 
 pub fn zero_block() -> [u8; 128]
-    ensures { λ r. ⌜ r ≡ replicate 128 0 ⌝ }
+    ensures { λ r. ⌜ r ≡ zeros 128 ⌝ }
 {
     [0u8; 128]
 }
@@ -111,7 +114,7 @@ pub fn padded(bytes: &[u8]) -> [u8; 128]
 
 // Makes the buffer ready for final_block: the bytes that are left at the offset and zeros, where a block is not left.
 pub fn pad_final_block(input: &[u8], offset: usize, buffer: &mut [u8; 128])
-    ensures { λ r. ⌜ now (buffer .exit) ≡ paddedBuffer (now (input .entry)) offset (now (buffer .entry)) ⌝ }
+    ensures { λ r. ⌜ now (buffer .exit) ≡ paddedBuffer 128 (now (input .entry)) offset (now (buffer .entry)) ⌝ }
 {
     let rest = offset_slice(input, offset);
     if rest.len() < 128 {
@@ -122,7 +125,7 @@ pub fn pad_final_block(input: &[u8], offset: usize, buffer: &mut [u8; 128])
 
 // The block at an offset: the caller's own 128 bytes, or the buffer that was padded for it.
 pub fn final_block<'a>(input: &'a [u8], offset: usize, buffer: &'a [u8]) -> &'a [u8]
-    ensures { λ r. ⌜ now r ≡ finalBlock (now (input .entry)) offset (now (buffer .entry)) ⌝ }
+    ensures { λ r. ⌜ now r ≡ finalBlock 128 (now (input .entry)) offset (now (buffer .entry)) ⌝ }
 {
     let rest = offset_slice(input, offset);
     if rest.len() < 128 {

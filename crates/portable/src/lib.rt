@@ -1,4 +1,5 @@
 // Modules 1 and 2: the helpers of guts.rs, and the compression function and the block loop of portable.rs.
+// Internal: the layers above meet what its functions require.
 mod blocks;
 mod compress;
 mod guts;

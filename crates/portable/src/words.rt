@@ -1,11 +1,10 @@
 // The two leaves between bytes and words, little-endian.
+// In their plainest form: nothing above goes by more than their contracts.
 ghost use mathlib.Core.Path.{_≡_};
-ghost use mathlib.Core.List.{flatMap};
 ghost use Prim.Native.Nat.{_<_};
 ghost use lib.ListN.{length};
-ghost use Rattle.definitions.specs.Words.{bytes};
 ghost use Rattle.definitions.specs.Family.{BLAKE2b};
-ghost use Rattle.definitions.specs.Hash.{words};
+ghost use Rattle.definitions.specs.Hash.{words, stateBytes};
 
 fn wide(x: u8) -> u64
     ensures { λ r. ⌜ (r ≡ x) × (r < 256) ⌝ }
@@ -36,7 +35,7 @@ pub fn read_words(block: &[u8]) -> [u64; 16]
 
 // The sixty-four bytes of eight words.
 pub fn write_words(h: [u64; 8]) -> [u8; 64]
-    ensures { λ r. ⌜ r ≡ flatMap (bytes 8) h ⌝ }
+    ensures { λ r. ⌜ r ≡ stateBytes BLAKE2b h ⌝ }
 {
     let mut out = [0u8; 64];
     let mut i: usize = 0;

@@ -1,8 +1,10 @@
+-- `portable::blocks::compress1_loop` meets its contract. The loop's invariant: k blocks have gone, and block k is there.
+-- Assumes nothing.
 use mathlib.Core.Path.{_≡_, refl, sym, ap, _∙_}
 use mathlib.Core.Bool.{Bool, true, false, _&&_}
 use mathlib.Core.List.{List}
-use Prim.Native.Nat.{ℕ, suc, _+_, _-_, _*_, _/_, _%_, _^_, _<_, _≤_}
-use native.Mathlib.Nat.{div-add-mod', add-comm, mul-zero, add-zero}
+use Prim.Native.Nat.{ℕ, suc, _+_, _-_, _*_, _^_, _<_, _≤_}
+use native.Mathlib.Nat.{mul-zero, add-zero}
 use native.Mathlib.Omega.{arith}
 use denote.Ref.{now}
 use borrow.Author.Needs.{needs}
@@ -10,16 +12,19 @@ use lib.Dec.{leb}
 use lib.ListN.{length, drop}
 use Rattle.definitions.specs.Words.{pad}
 use Rattle.definitions.specs.Family.{BLAKE2b}
-use Rattle.definitions.specs.Compress.{F}
-use Rattle.definitions.specs.Hash.{words, compress}
+use Rattle.definitions.specs.Hash.{words}
 use Rattle.laws.specs.Chain.{spare, blockAt, absorb}
+use Rattle.laws.specs.Offsets.{paddedBuffer, finalBlock}
 use Rattle.laws.specs.Blocks.{onBytes, throughBlocks}
-use Rattle.laws.proofs.Bytes.{length-padded}
+use Rattle.definitions.proofs.Lengths.{length-pad}
+use Rattle.laws.proofs.Bytes.{length-zeros}
 use Rattle.laws.proofs.Chains.{absorb-step, through-step}
-use Rattle.portable.specs.Guts.{paddedBlockbytes, paddedBuffer, finalBlock, finalFacts, finalizes, isLastNode}
+use Rattle.portable.specs.Guts.{paddedBlockbytes, finalFacts, finalizes, isLastNode}
 use Rattle.portable.specs.declared.guts.Stride.{Stride}
 use Rattle.portable.specs.declared.guts.FinalFacts.{FinalFacts}
-use Rattle.portable.proofs.BlockAt.{row-wide, last-is, last-not, row-more, block-at, length-block, length-buffer, short-block, whole-block, count-fits}
+use Rattle.laws.proofs.Calls.{compressed-on-bytes}
+use Rattle.laws.proofs.Offsets.{last-is, last-not, row-more, block-at, length-block, length-buffer, short-block, whole-block, count-fits}
+use Rattle.portable.proofs.Facts.{row-wide}
 use Rattle.portable.proofs.blocks.compress1_loop.Statement.{statement}
 use Rattle.portable.proofs.blocks.compress1_loop.Tie as tie
 
@@ -39,18 +44,13 @@ abbrev μ-loop : tie.MeasureT-loop
 μ-loop input count stride row buf fin-last-block fin-last-node local-words₀ local-count₀ offset₀ local-words local-count offset =
     length input - offset
 
--- a compression of the code, on the input's bytes
-turn : (w : List ℕ) (b : List ℕ) {t u lo hi : ℕ} {x r : List ℕ} {l m last node : Bool} → lo ≡ t % 2 ^ 64 → hi ≡ t / 2 ^ 64 → t ≡ u → x ≡ pad 128 b
-    → l ≡ last → m ≡ node → r ≡ F BLAKE2b w (words BLAKE2b 16 x) (lo + hi * 2 ^ 64) l m → r ≡ onBytes BLAKE2b w b u last node
-unfolding onBytes compress
-turn w b {t} {u} {lo} {hi} p q g e f h z =
-    let s : lo + hi * 2 ^ 64 ≡ u = rw (p, q) (add-comm (t % 2 ^ 64) (t / 2 ^ 64 * 2 ^ 64) ∙ div-add-mod' t (2 ^ 64) ∙ g) in
-    z ∙ (λ i. F BLAKE2b w (words BLAKE2b 16 (e i)) (s i) (f i) (h i))
+block-some : 0 < 128
+block-some = omega arith
 
 -- what final_facts says at block k
 facts-len : (d : List ℕ) (s : Stride) (row k : ℕ) {o : ℕ} {r : FinalFacts} → 128 ≤ row → r ≡ finalFacts d o s → o ≡ row * k → r .len ≡ length (blockAt 128 row d k)
 unfolding finalFacts
-facts-len d s row k w e h = rw h at (ap (λ (r : FinalFacts). r .len) e) ∙ length-block d row w k
+facts-len d s row k w e h = rw h at (ap (λ (r : FinalFacts). r .len) e) ∙ length-block 128 block-some d row w k
 
 facts-last : (d : List ℕ) (s : Stride) (row k : ℕ) {o : ℕ} {r : FinalFacts} → row ≡ paddedBlockbytes s → r ≡ finalFacts d o s → o ≡ row * k
     → r .«may_finalize» ≡ leb (length (drop (row * k) d)) row
@@ -58,8 +58,8 @@ unfolding finalFacts
 facts-last d s row k g e h = rw h at (ap (λ (r : FinalFacts). r .«may_finalize») e) ∙ ap (leb (length (drop (row * k) d))) (sym g)
 
 block-is : (d : List ℕ) (row k : ℕ) (z : List ℕ) {o e : ℕ} {b x : List ℕ} → 128 ≤ row → k ≤ spare row 0 (length d) → o ≡ row * k → e ≡ row * spare row 0 (length d)
-    → b ≡ paddedBuffer d e z → x ≡ finalBlock d o b → x ≡ pad 128 (blockAt 128 row d k)
-block-is d row k z w h f g p q = q ∙ (λ i. finalBlock d (f i) ((p ∙ ap (λ (n : ℕ). paddedBuffer d n z) g) i)) ∙ block-at d row w k z h
+    → b ≡ paddedBuffer 128 d e z → x ≡ finalBlock 128 d o b → x ≡ pad 128 (blockAt 128 row d k)
+block-is d row k z w h f g p q = q ∙ (λ i. finalBlock 128 d (f i) ((p ∙ ap (λ (n : ℕ). paddedBuffer 128 d n z) g) i)) ∙ block-at 128 block-some d row w k z h
 
 -- the counts after a block
 count-after : (t k : ℕ) {n len m : ℕ} → n ≡ t + 128 * k → len ≡ m → n + len ≡ t + 128 * k + m
@@ -77,8 +77,8 @@ nearer n o row x e h w = omega arith
 below-as : {x y z : ℕ} → x ≡ y → y < z → x < z
 below-as p q = omega arith
 
-more-fits : (o row x n t : ℕ) → o ≡ x → x + row < n → t + n < 2 ^ 64 → o + row < 2 ^ 64
-more-fits o row x n t e h f = omega arith
+more-fits : (o row x n : ℕ) → o ≡ x → x + row < n → n < 2 ^ 64 → o + row < 2 ^ 64
+more-fits o row x n e h f = omega arith
 
 -- the paths to what is known at the loop's head: the entry, the row, the input, the block
 abbrev begun : tie.At-loop Inv-loop μ-loop → tie.Start Inv-loop μ-loop
@@ -99,6 +99,9 @@ block l = blockAt 128 (row l) (input l) (l .loop .inv .k)
 -- and from a compression back to the facts on its block
 abbrev faced : tie.After-compress-block Inv-loop μ-loop → tie.After-final-facts Inv-loop μ-loop
 faced c = c .before .before .before .before .before .before .before
+
+length-fits : (c : tie.Start Inv-loop μ-loop) → length (c .args .input .now) < 2 ^ 64
+length-fits c = search needs
 
 wide : (l : tie.At-loop Inv-loop μ-loop) → 128 ≤ row l
 wide l = rw (rowed l .padded-blockbytes .ensures) (row-wide (begun l .args .stride))
@@ -134,7 +137,7 @@ compressed c q last node e f g =
     let hi = b2 .before in
     let lo = hi .before in
     let l = faced c .before in
-    turn (l .loop .local-words) (block l) (lo .count-low .ensures) (hi .count-high .ensures)
+    compressed-on-bytes BLAKE2b (l .loop .local-words) (block l) (lo .count-low .ensures) (hi .count-high .ensures)
     (count-after (begun l .args .count) (l .loop .inv .k) (l .loop .inv .counted) (len-is (faced c)))
     (block-of (lo .before))
     (b2 .both2 .ensures ∙ ap (λ (o : Bool). o && l .before .before .before .yes .result) e ∙ f)
@@ -146,7 +149,7 @@ following : (c : tie.Else1 Inv-loop μ-loop)
     → suc (faced (c .before) .before .loop .inv .k) ≤ spare (row (faced (c .before) .before)) 0 (length (input (faced (c .before) .before)))
 following c =
     let l = faced (c .before) .before in
-    last-not (input l) (row l) (wide l) (l .loop .inv .k) (sym (last-at (faced (c .before))) ∙ c .if1 .left)
+    last-not 128 block-some (input l) (row l) (wide l) (l .loop .inv .k) (sym (last-at (faced (c .before))) ∙ c .if1 .left)
 
 padded-blockbytes-requires : tie.Need-padded-blockbytes-requires Inv-loop μ-loop
 padded-blockbytes-requires c κs = search needs
@@ -182,7 +185,7 @@ add-local-count c =
     let a = begun l .args in
     record {
       fits = below-as (count-after (a .count) (l .loop .inv .k) (l .loop .inv .counted) (len-is c))
-          (count-fits (input l) (row l) (wide l) (a .count) (l .loop .inv .k) (l .loop .inv .there) (begun l .pre));
+          (count-fits 128 block-some (input l) (row l) (wide l) (2 ^ 64) (a .count) (l .loop .inv .k) (l .loop .inv .there) (begun l .pre));
     }
 
 slice-aggregate-final-block : tie.Need-slice-aggregate-final-block Inv-loop μ-loop
@@ -190,7 +193,7 @@ slice-aggregate-final-block c =
     let l = c .before .before in
     let p = l .before .before .before .before in
     let z = p .before .before .before .zero-block in
-    sym (ap length (p .pad-final-block .ensures) ∙ length-buffer (input l) (p .before .before .final-offset .result) (z .result) (ap length (z .ensures)))
+    sym (ap length (p .pad-final-block .ensures) ∙ length-buffer 128 (input l) (p .before .before .final-offset .result) (z .result) (ap length (z .ensures) ∙ length-zeros 128))
 
 final-block-requires : tie.Need-final-block-requires Inv-loop μ-loop
 final-block-requires c κs = search needs
@@ -211,7 +214,7 @@ compress-block-requires : tie.Need-compress-block-requires Inv-loop μ-loop
 compress-block-requires c κs =
     let b = c .before .before .before .before in
     let l = b .before .before .before in
-    ap length (block-of b) ∙ length-padded 128 (block l) (short-block (input l) (row l) (wide l) (l .loop .inv .k))
+    ap length (block-of b) ∙ length-pad 128 (block l) (short-block 128 block-some (input l) (row l) (wide l) (l .loop .inv .k))
 
 returns : tie.Need-returns Inv-loop μ-loop
 returns c =
@@ -221,7 +224,7 @@ returns c =
     let last = finalizes (a .finalize) in
     let node = last && isLastNode (a .last-node) in
     through-step 128 (onBytes BLAKE2b) (row l) (a .words) (a .count) last node (input l) (l .loop .inv .k)
-    (last-is (input l) (row l) (wide l) (l .loop .inv .k) (l .loop .inv .there) (sym (last-at (faced (c .before))) ∙ c .if1 .taken))
+    (last-is 128 block-some (input l) (row l) (wide l) (l .loop .inv .k) (l .loop .inv .there) (sym (last-at (faced (c .before))) ∙ c .if1 .taken))
     (l .loop .inv .absorbed) refl refl
     (compressed (c .before) true last node (c .if1 .taken) y (l .before .both .ensures ∙ (λ i. y i && l .before .before .yes2 .ensures i)))
     ∙ ap (λ (n : ℕ). throughBlocks BLAKE2b n (a .words) (a .count) last node (input l)) (rowed l .padded-blockbytes .ensures)
@@ -229,13 +232,13 @@ returns c =
 add-offset : tie.Need-add-offset Inv-loop μ-loop
 add-offset c =
     let l = faced (c .before) .before in
-    let h = row-more (input l) (row l) (wide l) (l .loop .inv .k) (following c) in
-    record { fits = more-fits (l .loop .offset) (row l) (row l * l .loop .inv .k) (length (input l)) (begun l .args .count) (l .loop .inv .offset) h (begun l .pre) }
+    let h = row-more 128 block-some (input l) (row l) (wide l) (l .loop .inv .k) (following c) in
+    record { fits = more-fits (l .loop .offset) (row l) (row l * l .loop .inv .k) (length (input l)) (l .loop .inv .offset) h (length-fits (begun l)) }
 
 loop-less : tie.Need-loop-less Inv-loop μ-loop
 loop-less c =
     let l = faced (c .before) .before in
-    let h = row-more (input l) (row l) (wide l) (l .loop .inv .k) (following c) in
+    let h = row-more 128 block-some (input l) (row l) (wide l) (l .loop .inv .k) (following c) in
     nearer (length (input l)) (l .loop .offset) (row l) (row l * l .loop .inv .k) (l .loop .inv .offset) h (wide l)
 
 loop-again : tie.Need-loop-again Inv-loop μ-loop
@@ -243,7 +246,7 @@ loop-again c =
     let l = faced (c .before) .before in
     let a = begun l .args in
     let k = l .loop .inv .k in
-    let whole = whole-block (input l) (row l) (wide l) k (following c) in
+    let whole = whole-block 128 block-some (input l) (row l) (wide l) k (following c) in
     record {
       k = suc k;
       offset = next-offset (row l) k (l .loop .inv .offset);

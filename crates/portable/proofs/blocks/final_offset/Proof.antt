@@ -1,3 +1,5 @@
+-- `portable::blocks::final_offset` meets its contract. The last row starts at the last multiple of the row before the end.
+-- Assumes nothing.
 use mathlib.Core.Path.{_≡_, sym, ap, _∙_}
 use Prim.Native.Nat.{ℕ, _+_, _-_, _*_, _/_, _%_}
 use native.Mathlib.Nat.{div-add-mod', zero-div, mul-zero, mul-comm, mod-le}

@@ -1,3 +1,5 @@
+-- `portable::compress::columns` meets its contract. Four calls of the mixing function make the columns.
+-- Assumes nothing.
 use mathlib.Core.Path.{_≡_}
 use lib.ListN.{length}
 use Rattle.definitions.specs.Family.{BLAKE2b}

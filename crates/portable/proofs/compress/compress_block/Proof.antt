@@ -1,6 +1,8 @@
+-- `portable::compress::compress_block` meets its contract. Its pieces make F.
+-- Assumes nothing.
 use Rattle.definitions.specs.Family.{BLAKE2b}
 use Rattle.definitions.specs.Compress.{roundsTo}
-use Rattle.laws.specs.Halves.{begin}
+use Rattle.laws.specs.Halves.{initial}
 use Rattle.laws.proofs.Compression.{F-is}
 use mathlib.Core.Path.{_∙_}
 use denote.Ref.{now}
@@ -19,7 +21,7 @@ returns c =
     let s = at-words .before .before in
     let a = s .args in
     F-is BLAKE2b (a .words) (words BLAKE2b 16 (now (a .block))) (a .count-low) (a .count-high) (a .last-block) (a .last-node) (s .fits .count-low .fits)
-    (at-start .start .ensures ∙ (λ i. begin BLAKE2b (a .words) (a .count-low) (a .count-high) (at-last .flag-word .ensures i) (at-node .flag-word2 .ensures i)))
+    (at-start .start .ensures ∙ (λ i. initial BLAKE2b (a .words) (a .count-low) (a .count-high) (at-last .flag-word .ensures i) (at-node .flag-word2 .ensures i)))
     (at-rounds .rounds .ensures ∙ (λ i. roundsTo BLAKE2b 12 (at-words .read-words .ensures i) (at-start .start .result)))
     (c .finish .ensures)
 

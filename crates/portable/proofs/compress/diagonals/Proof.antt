@@ -1,3 +1,5 @@
+-- `portable::compress::diagonals` meets its contract. Four calls of the mixing function make the diagonals.
+-- Assumes nothing.
 use mathlib.Core.Path.{_≡_}
 use lib.ListN.{length}
 use Rattle.definitions.specs.Family.{BLAKE2b}

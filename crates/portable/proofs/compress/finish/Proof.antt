@@ -1,3 +1,5 @@
+-- `portable::compress::finish` meets its contract. The loop's invariant: the first i words are folded.
+-- Assumes nothing.
 use mathlib.Core.Path.{_≡_, refl, _∙_}
 use Prim.Native.Nat.{ℕ, _+_, _-_, _<_, _≤_}
 use native.Mathlib.Nat.{not-suc-le-zero}

@@ -1,3 +1,5 @@
+-- `portable::compress::g` meets its contract. Its eight lines are the definition's, on four words.
+-- Assumes nothing.
 use Rattle.definitions.specs.Compress.{G}
 use borrow.Author.Needs.{needs}
 use Rattle.portable.proofs.compress.g.Statement.{statement}

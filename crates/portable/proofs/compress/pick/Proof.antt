@@ -1,3 +1,5 @@
+-- `portable::compress::pick` meets its contract.
+-- Assumes nothing.
 use native.Mathlib.Omega.{arith}
 use borrow.Author.Needs.{needs}
 use Rattle.portable.proofs.compress.pick.Statement.{statement}

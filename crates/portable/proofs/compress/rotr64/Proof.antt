@@ -1,3 +1,5 @@
+-- `portable::compress::rotr64` meets its contract.
+-- Assumes nothing.
 use Rattle.laws.proofs.Rotate.{rot-is}
 use borrow.Author.Needs.{needs}
 use Rattle.portable.proofs.compress.rotr64.Statement.{statement}

@@ -1,3 +1,5 @@
+-- `portable::compress::rounds` meets its contract. Round by round, the rows of the schedule are compared and tested by computing.
+-- Assumes nothing.
 use mathlib.Core.Path.{refl}
 use denote.Ref.{now}
 use Rattle.definitions.specs.Family.{BLAKE2b}

@@ -1,7 +1,9 @@
+-- `portable::compress::start` meets its contract.
+-- Assumes nothing.
 use mathlib.Core.Path.{_≡_, refl}
 use lib.ListN.{length}
 use Rattle.definitions.specs.Family.{BLAKE2b}
-use Rattle.laws.specs.Halves.{begin}
+use Rattle.laws.specs.Halves.{initial}
 use Rattle.laws.proofs.Lists.{by-front}
 use borrow.Author.Needs.{needs}
 use Rattle.portable.proofs.compress.start.Statement.{statement}
@@ -11,8 +13,8 @@ long : (c : tie.Start) → length (c .args .t1) ≡ 8
 long c = search needs
 
 returns : tie.Need-returns
-unfolding begin
-returns c = by-front 8 (λ h. begin BLAKE2b h (c .args .count-low) (c .args .count-high) (c .args .last) (c .args .node)) (c .args .t1) (long c) refl
+unfolding initial
+returns c = by-front 8 (λ h. initial BLAKE2b h (c .args .count-low) (c .args .count-high) (c .args .last) (c .args .node)) (c .args .t1) (long c) refl
 
 pub start-spec : {M : Type 1} → statement M
 start-spec =

@@ -1,8 +1,10 @@
+-- `portable::guts::final_block` meets its contract.
+-- Assumes nothing.
 use mathlib.Core.Path.{sym}
 use lib.Seq.{length-take-le}
 use denote.Ref.{now}
 use borrow.Author.Needs.{needs}
-use Rattle.portable.proofs.BlockAt.{block-short, block-whole}
+use Rattle.laws.proofs.Offsets.{block-short, block-whole}
 use Rattle.portable.proofs.guts.final_block.Statement.{statement}
 use Rattle.portable.proofs.guts.final_block.Tie as tie
 
@@ -12,7 +14,7 @@ offset-slice-requires c κs = search needs
 returns : tie.Need-returns
 returns c =
     let s = c .before .before .before .before in
-    block-short (now (s .args .input)) (s .args .offset) (c .before .offset-slice .ensures) (now (s .args .buffer)) (c .if1 .taken)
+    block-short 128 (now (s .args .input)) (s .args .offset) (c .before .offset-slice .ensures) (now (s .args .buffer)) (c .if1 .taken)
 
 slice-aggregate-result : tie.Need-slice-aggregate-result
 slice-aggregate-result c = sym (length-take-le 128 (c .before .before .offset-slice .result .now) (c .before .if1 .left))
@@ -20,7 +22,7 @@ slice-aggregate-result c = sym (length-take-le 128 (c .before .before .offset-sl
 returns-2 : tie.Need-returns-2
 returns-2 c =
     let s = c .before .before .before .before .before in
-    block-whole (now (s .args .input)) (s .args .offset) (c .before .before .offset-slice .ensures) (now (s .args .buffer)) (c .before .if1 .left)
+    block-whole 128 (now (s .args .input)) (s .args .offset) (c .before .before .offset-slice .ensures) (now (s .args .buffer)) (c .before .if1 .left)
 
 pub final-block-spec : {M : Type 1} → statement M
 final-block-spec =

@@ -1,6 +1,8 @@
+-- `portable::guts::final_facts` meets its contract.
+-- Assumes nothing.
 use denote.Ref.{now}
 use borrow.Author.Needs.{needs}
-use Rattle.portable.proofs.BlockAt.{facts-short, facts-whole}
+use Rattle.portable.proofs.Facts.{facts-short, facts-whole}
 use Rattle.portable.proofs.guts.final_facts.Statement.{statement}
 use Rattle.portable.proofs.guts.final_facts.Tie as tie
 

@@ -1,3 +1,5 @@
+-- `portable::guts::flag_word` meets its contract.
+-- Assumes nothing.
 use mathlib.Core.Path.{sym, ap}
 use Rattle.definitions.specs.Family.{BLAKE2b}
 use Rattle.definitions.specs.Compress.{ones}

@@ -1,3 +1,5 @@
+-- `portable::guts::offset_slice` meets its contract.
+-- Assumes nothing.
 use mathlib.Core.Path.{_≡_}
 use mathlib.Core.List.{[]}
 use Prim.Native.Nat.{_-_}

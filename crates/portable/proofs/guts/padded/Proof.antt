@@ -1,3 +1,5 @@
+-- `portable::guts::padded` meets its contract. The loop's invariant: the first i bytes stand over zeros.
+-- Assumes nothing.
 use mathlib.Core.Path.{_≡_, ap, _∙_}
 use Prim.Native.Nat.{_-_, _≤_}
 use native.Mathlib.Omega.{arith}
@@ -5,6 +7,7 @@ use borrow.Author.Needs.{needs}
 use lib.ListN.{length, take}
 use lib.Seq.{take-all}
 use Rattle.definitions.specs.Words.{pad}
+use Rattle.laws.specs.Chain.{zeros}
 use Rattle.laws.proofs.Bytes.{pad-more}
 use Rattle.portable.proofs.guts.padded.Statement.{statement}
 use Rattle.portable.proofs.guts.padded.Tie as tie
@@ -19,7 +22,7 @@ zero-block-requires : tie.Need-zero-block-requires Inv-loop μ-loop
 zero-block-requires c κs = search needs
 
 loop-holds : tie.Need-loop-holds Inv-loop μ-loop
-unfolding pad
+unfolding pad zeros
 loop-holds c = (omega arith, c .zero-block .ensures)
 
 shared-slice-read-block : tie.Need-shared-slice-read-block Inv-loop μ-loop

@@ -1,3 +1,5 @@
+-- `portable::words::read_words` meets its contract. The loop's invariant: the first i words are read.
+-- Assumes nothing.
 use mathlib.Core.Path.{_≡_, refl, sym, ap, _∙_}
 use Prim.Native.Nat.{ℕ, suc, _+_, _-_, _*_, _^_, _<_, _≤_}
 use native.Mathlib.Omega.{arith}

@@ -1,3 +1,5 @@
+-- `portable::words::write_words` meets its contract. The loops' invariants: i words are written, and j bytes of the next.
+-- Assumes nothing.
 use mathlib.Core.Path.{_≡_, refl, sym, ap, _∙_}
 use mathlib.Core.List.{flatMap}
 use Prim.Native.Nat.{ℕ, _+_, _-_, _*_, _/_, _%_, _^_, _<_, _≤_}
@@ -8,6 +10,7 @@ use lib.Pow.{shr-shr}
 use lib.ListN.{length, length-set}
 use lib.Seq.{ext-getD}
 use Rattle.definitions.specs.Words.{_!_, bytes}
+use Rattle.definitions.specs.Hash.{stateBytes}
 use Rattle.laws.proofs.Bytes.{flat-at, bytes-at, length-flat}
 use Rattle.laws.proofs.Lists.{set-more}
 use Rattle.portable.proofs.words.write_words.Statement.{statement}
@@ -87,6 +90,7 @@ loop-again c =
     (omega arith, l .inv .1, λ k b. l .inv .3 k (omega arith))
 
 returns : tie.Need-returns Inv-loop2 μ-loop2 Inv-loop μ-loop
+unfolding stateBytes
 returns c =
     let l = c .before .loop in
     let h = c .before .before .args .t1 in

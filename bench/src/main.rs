@@ -1,8 +1,8 @@
-//! Times this library's block loop against the portable code of the Rust crate, in one process.
+//! Times this library's block loop and its BLAKE2b against the portable code of the Rust crate, in one process.
 //!
 //! The sides and the sizes take turns, so that a slow spell of the machine meets all of them, and the
 //! fastest of many rounds counts, since whatever disturbs a round only makes it slower. The crate also runs
-//! as a third side, against itself, which shows the noise of the clock and the machine. It does not show
+//! against itself, which shows the noise of the clock and the machine. It does not show
 //! what depends on where the linker puts each side's code: that changes with the build, not with the run.
 
 use blake2b_simd::{benchmarks, Params};
@@ -20,6 +20,8 @@ extern "C" {
         parallel: bool,
     );
     fn sumpillow_write_words(words: &[u64; 8], out: &mut [u8; 64]);
+    fn sumpillow_blake2b(input: *const u8, length: usize, out: *mut u8, room: usize) -> u8;
+    fn sumpillow_state(input: *const u8, length: usize, out: *mut u8, room: usize) -> u8;
 }
 
 // The words before the first block of an unkeyed hash of 64 bytes.
@@ -34,14 +36,16 @@ const INITIAL: [u64; 8] = [
     0x5BE0CD19137E2179,
 ];
 
-const SIZES: [usize; 3] = [128, 4 << 10, 1 << 20];
+const SIZES: [usize; 4] = [64, 128, 4 << 10, 1 << 20];
+// Ours: the block loop, one-shot, through a state; then the crate, twice.
+const SIDES: usize = 5;
 const BATCHES: usize = 5;
 // A timed run hashes at least this much, so that the clock's own cost does not show.
 const LEAST_BYTES: usize = 64 << 10;
 
 type Digest = [u8; 64];
 
-fn ours(input: &[u8], last_node: bool, parallel: bool) -> Digest {
+fn by_loop(input: &[u8], last_node: bool, parallel: bool) -> Digest {
     let (start, length) = (input.as_ptr(), input.len());
     let mut words = INITIAL;
     let mut digest = [0; 64];
@@ -49,6 +53,15 @@ fn ours(input: &[u8], last_node: bool, parallel: bool) -> Digest {
         sumpillow_compress1_loop(start, length, &mut words, 0, last_node, true, parallel);
         sumpillow_write_words(&words, &mut digest);
     }
+    digest
+}
+
+type Whole = unsafe extern "C" fn(*const u8, usize, *mut u8, usize) -> u8;
+
+fn by_call(call: Whole, input: &[u8]) -> Digest {
+    let mut digest = [0; 64];
+    let number = unsafe { call(input.as_ptr(), input.len(), digest.as_mut_ptr(), digest.len()) };
+    assert_eq!(number, 0);
     digest
 }
 
@@ -68,16 +81,17 @@ fn check_agreement(data: &[u8]) {
         params.last_node(last_node);
         for length in (0..=1024).chain(SIZES) {
             let input = &data[..length];
-            assert_eq!(
-                ours(input, last_node, false),
-                theirs(&params, input),
-                "{length} bytes"
-            );
+            let expected = theirs(&params, input);
+            assert_eq!(by_loop(input, last_node, false), expected, "{length} bytes");
+            if !last_node {
+                assert_eq!(by_call(sumpillow_blake2b, input), expected, "{length} bytes");
+                assert_eq!(by_call(sumpillow_state, input), expected, "{length} bytes");
+            }
         }
         // A leaf of BLAKE2bp takes one block in four.
         let every_fourth = [&data[..128], &data[512..640]].concat();
         assert_eq!(
-            ours(&data[..1024], last_node, true),
+            by_loop(&data[..1024], last_node, true),
             theirs(&params, &every_fourth)
         );
     }
@@ -126,17 +140,22 @@ fn main() {
 
     let params = portable();
     let crate_side = |input: &[u8]| theirs(&params, input);
-    let sides: [&dyn Fn(&[u8]) -> Digest; 3] =
-        [&|input| ours(input, false, false), &crate_side, &crate_side];
+    let sides: [&dyn Fn(&[u8]) -> Digest; SIDES] = [
+        &|input| by_loop(input, false, false),
+        &|input| by_call(sumpillow_blake2b, input),
+        &|input| by_call(sumpillow_state, input),
+        &crate_side,
+        &crate_side,
+    ];
 
-    let mut fastest = [[[f64::INFINITY; BATCHES]; 3]; SIZES.len()];
+    let mut fastest = [[[f64::INFINITY; BATCHES]; SIDES]; SIZES.len()];
     for batch in 0..BATCHES {
         for round in 0..rounds {
             for (size, length) in SIZES.into_iter().enumerate() {
                 let input = &data[..length];
                 let expected = crate_side(input);
-                for turn in 0..3 {
-                    let side = (round + turn) % 3;
+                for turn in 0..SIDES {
+                    let side = (round + turn) % SIDES;
                     let best = &mut fastest[size][side][batch];
                     *best = best.min(time(sides[side], input, &expected));
                 }
@@ -144,22 +163,22 @@ fn main() {
         }
     }
 
-    println!(
-        "ours: the block loop, finalizing, from the initial words, and the digest's bytes; crate: Params::hash, portable"
-    );
-    println!("both gave the same digests; neither clears its buffers");
+    println!("loop: the block loop, finalizing, from the initial words, and the digest's bytes");
+    println!("hash: BLAKE2b one-shot; state: through a state and one update; crate: Params::hash, portable");
+    println!("all gave the same digests; nothing clears its buffers");
     println!("crate : itself is the noise within a run; the placement of code, fixed by the build, adds to it");
-    println!("ratio of the fastest of all rounds (of {BATCHES} batches of {rounds} rounds: lowest, median, highest)");
+    println!("ratios of the fastest of all rounds to the crate's (of {BATCHES} batches of {rounds} rounds: lowest, median, highest)");
     println!(
-        "{:>8} {:>10} {:>10}  {:<28}{}",
-        "bytes", "ours ns/B", "crate ns/B", "ours : crate", "crate : itself"
+        "{:>8} {:>10}  {:<28}{:<28}{:<28}{}",
+        "bytes", "crate ns/B", "loop", "hash", "state", "crate : itself"
     );
-    for (length, [ours, first, again]) in SIZES.into_iter().zip(fastest) {
+    for (length, [by_loop, hash, state, first, again]) in SIZES.into_iter().zip(fastest) {
         println!(
-            "{length:>8} {:>10.3} {:>10.3}  {:<28}{}",
-            least(ours),
+            "{length:>8} {:>10.3}  {:<28}{:<28}{:<28}{}",
             least(first),
-            ratio(ours, first),
+            ratio(by_loop, first),
+            ratio(hash, first),
+            ratio(state, first),
             ratio(again, first)
         );
     }

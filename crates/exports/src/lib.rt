@@ -1,6 +1,8 @@
-// What a program in C or Rust links: the block loop and the bytes of a state, on numbers and lent bytes.
+// What a program in C or Rust links: the block loop, the bytes of a state, and BLAKE2b one-shot and through a state.
 // Test code: safe by proof, with no promise of its own. It has one caller of compress_block, the loop, as the library has: a second
 // one would keep the compiler from inlining it.
+use blake2b::State;
+use blake2b::blake2b;
 use portable::Finalize;
 use portable::LastNode;
 use portable::Stride;
@@ -54,4 +56,22 @@ pub extern "C" fn sumpillow_write_words(words: &[u64; 8], out: &mut [u8; 64]) {
     let h = *words;
     let bytes = write_words(h);
     *out = bytes;
+}
+
+// The digest of 64 bytes, one-shot; the answer's number.
+#[no_mangle]
+pub extern "C" fn sumpillow_blake2b(input: &[u8], out: &mut [u8]) -> u8 {
+    let written = blake2b(input).write_bytes(out);
+    written.number
+}
+
+// The same through a state and one update.
+#[no_mangle]
+pub extern "C" fn sumpillow_state(input: &[u8], out: &mut [u8]) -> u8 {
+    let taken = State::new().update(input);
+    let state = taken.state;
+    let done = state.finalize();
+    let hash = done.hash;
+    let written = hash.write_bytes(out);
+    written.number
 }

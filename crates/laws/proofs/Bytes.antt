@@ -3,7 +3,7 @@
 use mathlib.Core.Path.{_≡_, refl, sym, ap, _∙_}
 use mathlib.Core.List.{List, [], _∷_, _++_, flatMap, append-nil}
 use Prim.Native.Nat.{ℕ, zero, suc, _+_, _-_, _*_, _/_, _%_, _^_, _<_}
-use native.Mathlib.Nat.{zero-add, not-suc-le-zero, le-of-suc-le-suc, pow-suc, pow-le-pow-right, div-one, lt-of-lt-of-le, zero-mul, suc-mul, add-assoc, add-comm, sub-self}
+use native.Mathlib.Nat.{zero-add, not-suc-le-zero, le-of-suc-le-suc, pow-suc, pow-le-pow-right, div-one, lt-of-lt-of-le, zero-mul, suc-mul, add-assoc, add-comm, sub-self, div-lt-iff-lt-mul}
 use native.Mathlib.Numerals.{add-one}
 use native.Mathlib.Omega.{arith}
 use lib.Dec.{lit<}
@@ -28,6 +28,13 @@ horner-below n x b h g = rw (add-one, pow-suc 256 n) (omega arith)
 
 pub horner-fits : (k n x b : ℕ) → n < k → x < 256 ^ n → b < 256 → x * 256 + b < 256 ^ k
 horner-fits k n x b l h g = lt-of-lt-of-le (horner-below n x b h g) (pow-le-pow-right {n = 256} (lit< tt) {i = n + 1} {j = k} (omega arith))
+
+-- the bytes of a number stand for it
+pub word-bytes : (n x : ℕ) → x < 256 ^ n → word (bytes n x) ≡ x
+word-bytes zero x h = omega arith
+word-bytes (suc n) x h =
+    let b : x / 256 < 256 ^ n = div-lt-iff-lt-mul (lit< tt) .1 (rw (pow-suc 256 n) at h) in
+    rw (word-bytes n (x / 256) b) (omega arith)
 
 -- a list of n words, each the word of its part
 pub words-are : (f : Family) (n : ℕ) (d m : List ℕ) → length m ≡ n → ((k : ℕ) → k < n → m ! k ≡ word (part (f .ww) d k)) → m ≡ words f n d
@@ -86,3 +93,18 @@ length-zeros n = length-replicate n 0
 pub pad-whole : (n : ℕ) (b : List ℕ) → length b ≡ n → pad n b ≡ b
 unfolding pad
 pad-whole n b e = ap (λ (k : ℕ). b ++ replicate k 0) (ap (λ (k : ℕ). n - k) e ∙ sub-self n) ∙ append-nil b
+
+-- padding changes no place: behind the end there are zeros either way
+zeros-at : (m k : ℕ) → replicate m 0 ! k ≡ 0
+zeros-at zero k = refl
+zeros-at (suc m) zero = refl
+zeros-at (suc m) (suc k) = zeros-at m k
+
+append-zeros-at : (b : List ℕ) (m k : ℕ) → (b ++ replicate m 0) ! k ≡ b ! k
+append-zeros-at [] m k = zeros-at m k
+append-zeros-at (x ∷ b) m zero = refl
+append-zeros-at (x ∷ b) m (suc k) = append-zeros-at b m k
+
+pub pad-at : (n : ℕ) (b : List ℕ) (k : ℕ) → pad n b ! k ≡ b ! k
+unfolding pad
+pad-at n b k = append-zeros-at b (n - length b) k

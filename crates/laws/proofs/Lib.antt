@@ -8,3 +8,8 @@ pub mod Chains
 pub mod Shares
 pub mod Calls
 pub mod Offsets
+pub mod Buffers
+pub mod Serial
+pub mod Steps
+pub mod Lifts
+pub mod Tails

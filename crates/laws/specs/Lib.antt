@@ -2,3 +2,4 @@ pub mod Halves
 pub mod Chain
 pub mod Blocks
 pub mod Offsets
+pub mod Buffer

@@ -13,7 +13,7 @@ ghost use Rattle.definitions.specs.Hash as Hash;
 ghost use Rattle.laws.specs.Halves.{Order, ordered, mixed, columnsOf, diagonalsOf, initial, foldHalves};
 ghost use Rattle.portable.specs.Quads.{listed};
 
-const IV: [u64; 8] = [
+pub const IV: [u64; 8] = [
     0x6A09E667F3BCC908,
     0xBB67AE8584CAA73B,
     0x3C6EF372FE94F82B,

@@ -3,6 +3,7 @@
 mod blocks;
 mod compress;
 mod guts;
+mod parameters;
 mod words;
 
 pub use blocks::Compressed;
@@ -11,5 +12,9 @@ pub use compress::compress_block;
 pub use guts::Finalize;
 pub use guts::LastNode;
 pub use guts::Stride;
+pub use guts::padded;
+pub use guts::zero_block;
+pub use parameters::parameter_words;
+pub use words::read_word;
 pub use words::read_words;
 pub use words::write_words;

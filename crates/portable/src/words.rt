@@ -1,8 +1,9 @@
 // The two leaves between bytes and words, little-endian.
 // In their plainest form: nothing above goes by more than their contracts.
 ghost use mathlib.Core.Path.{_≡_};
-ghost use Prim.Native.Nat.{_<_};
-ghost use lib.ListN.{length};
+ghost use Prim.Native.Nat.{_+_, _<_, _≤_};
+ghost use lib.ListN.{length, take, drop};
+ghost use Rattle.definitions.specs.Words.{word};
 ghost use Rattle.definitions.specs.Family.{BLAKE2b};
 ghost use Rattle.definitions.specs.Hash.{words, stateBytes};
 
@@ -10,6 +11,21 @@ fn wide(x: u8) -> u64
     ensures { λ r. ⌜ (r ≡ x) × (r < 256) ⌝ }
 {
     x as u64
+}
+
+// The word that the eight bytes from an index on stand for.
+pub fn read_word(bytes: &[u8], at: usize) -> u64
+    requires { ⌜ at + 8 ≤ length (now bytes) ⌝ }
+    ensures { λ r. ⌜ r ≡ word (take 8 (drop at (now (bytes .entry)))) ⌝ }
+{
+    let mut x: u64 = 0;
+    let mut j: usize = 0;
+    while j < 8 {
+        let p = at + (7 - j);
+        x = x * 256 + wide(bytes[p]);
+        j += 1;
+    }
+    x
 }
 
 // The sixteen words of a block.
@@ -20,13 +36,7 @@ pub fn read_words(block: &[u8]) -> [u64; 16]
     let mut m = [0u64; 16];
     let mut i: usize = 0;
     while i < 16 {
-        let mut x: u64 = 0;
-        let mut j: usize = 0;
-        while j < 8 {
-            let p = i * 8 + (7 - j);
-            x = x * 256 + wide(block[p]);
-            j += 1;
-        }
+        let x = read_word(block, i * 8);
         m[i] = x;
         i += 1;
     }

@@ -1,0 +1,11 @@
+pub mod Buffered
+pub mod Cleaned
+pub mod Digests
+pub mod OneShot
+pub mod Pushes
+pub mod Ranges
+pub mod Rows
+pub mod Setters
+pub mod States
+pub mod Turns
+pub mod Unique

@@ -1,0 +1,155 @@
+-- The history of one state: to any updates, digests and counts, in any order and any cuts, it answers as the row of its parameters and
+-- the bytes accepted would. So asking changes nothing, and asked twice it answers the same. Assumes nothing.
+use mathlib.Core.Path.{_≡_, refl, sym, ap, _∙_}
+use mathlib.Core.Bool.{Bool, true, false, cond}
+use mathlib.Core.List.{List, [], _∷_, _++_}
+use Prim.Native.Nat.{ℕ, zero, suc, _+_, _-_, _≤_}
+use native.Mathlib.Nat.{zero-add}
+use native.Mathlib.Omega.{arith}
+use borrow.Author.Tests.{le-leb, leb-true}
+use lib.Dec.{leb}
+use lib.ListN.{length, take, length-append}
+use Rattle.definitions.specs.Words.{pad}
+use Rattle.definitions.specs.Family.{BLAKE2b}
+use Rattle.definitions.specs.Hash.{keyed, untruncated, hash}
+use Rattle.laws.specs.Buffer.{joined}
+use Rattle.laws.proofs.Lifts.{after}
+use Rattle.laws.proofs.Buffers.{Sound}
+use Rattle.laws.proofs.Buffers as buffers
+use Rattle.numbers.specs.Numbers.{accepted, total-over, limit}
+use Rattle.blake2b.specs.Params.{inRange, asked, front, keyOf, withLastNode, Clean}
+use Rattle.blake2b.specs.State.{core, holding, machine, pushed, total, stateInRange, fresh, updated, finalized, counted, closedDigest, hashed}
+use Rattle.blake2b.specs.State as state
+use Rattle.blake2b.specs.Row.{Call, update, digest, count, Answer, taken, digested, stateSays, stateAnswers, rowSays, rowAnswers}
+use Rattle.blake2b.specs.Row as row
+use Rattle.blake2b.specs.declared.params.Params.{Params}
+use Rattle.blake2b.specs.declared.state.State.{State}
+use Rattle.blake2b.specs.declared.state.StateAnswer.{StateAnswer}
+use Rattle.blake2b.proofs.Digests.{digest-of-hash}
+use Rattle.blake2b.proofs.OneShot.{digest-asked, updated-within, finalized-within}
+use Rattle.blake2b.proofs.Pushes.{front-short, length-front, sound-fresh, range-fresh, range-pushed, total-pushed, digest-after, digest-pushed}
+use Rattle.blake2b.proofs.States.{lawful, tight, store}
+
+-- the bytes of two updates are those of one
+pub pushed-pushed : (s : State) (a b : List ℕ) → pushed (pushed s a) b ≡ pushed s (a ++ b)
+pushed-pushed s a b = ap (holding s) (buffers.pushed-pushed machine lawful tight (core s) a b)
+
+-- no bytes change nothing
+pub pushed-none : (s : State) → Sound machine (core s) → pushed s [] ≡ s
+pushed-none s sound = ap (holding s) (buffers.pushed-none machine lawful tight (core s) sound)
+
+-- behind the key block, the message: what the definitions hash
+block-keyed : (n : ℕ) (b m : List ℕ) → length b ≡ 128 → b ≡ pad 128 (take n b) → cond (leb 1 n) b [] ++ m ≡ keyed BLAKE2b (take n b) m
+unfolding keyed
+block-keyed zero b m l e = refl
+block-keyed (suc n) [] m l e = absurd (omega arith)
+block-keyed (suc n) (x ∷ b) m l e = rw (le-leb 1 (suc n) (omega arith)) (ap (λ (d : List ℕ). d ++ m) e)
+
+pub front-keyed : (p : Params) → Clean p → (m : List ℕ) → front p ++ m ≡ keyed BLAKE2b (keyOf p) m
+unfolding front
+front-keyed p clean m = block-keyed (p .«key_length») (p .«key_block») m (clean .whole) (clean .filled)
+
+-- the digest is RFC 7693's
+pub digest-is-hash : (p : Params) → Clean p → (m : List ℕ) → state.digest p m ≡ hash BLAKE2b (asked p) (p .«last_node») (keyOf p) m
+unfolding hash
+digest-is-hash p clean m = ap (λ (d : List ℕ). take (p .«hash_length») (untruncated BLAKE2b (asked p) (p .«last_node») d)) (front-keyed p clean m)
+
+-- the state of pieces, in any number and any cuts, empty ones included, has RFC 7693's digest of their bytes
+pub digest-of-pieces : (p : Params) → Clean p → (ps : List (List ℕ))
+    → closedDigest (after store machine lawful (fresh p) ps) ≡ hash BLAKE2b (asked p) (p .«last_node») (keyOf p) (joined ps)
+digest-of-pieces p clean ps = digest-after p (clean .whole) ps ∙ digest-is-hash p clean (joined ps)
+
+-- a flag that is set later is that of the parameters: digests from then on are those with it
+pub last-node-later : (p : Params) (up : Bool) (bytes : List ℕ) → state.withLastNode (pushed (fresh p) bytes) up ≡ pushed (fresh (withLastNode up p)) bytes
+unfolding front
+last-node-later p up bytes = refl
+
+module _ (p : Params) (clean : Clean p) (good : inRange p ≡ true) where
+  -- the state of some bytes that were accepted
+  module _ (bytes : List ℕ) (within : length (front p) + length bytes ≤ limit) where
+    abbrev s : State
+    s = pushed (fresh p) bytes
+
+    pub total-reached : total s ≡ length (front p) + length bytes
+    total-reached = total-pushed (fresh p) bytes (sound-fresh p (clean .whole)) ∙ ap (λ (n : ℕ). n + length bytes) (zero-add (length (front p)))
+
+    pub range-reached : stateInRange s ≡ true
+    range-reached = range-pushed (fresh p) bytes (sound-fresh p (clean .whole)) (range-fresh p (clean .whole) (digest-asked p good)) (rw (zero-add (length (front p))) within)
+
+    length-keyed : length (keyed BLAKE2b (keyOf p) bytes) ≡ length (front p) + length bytes
+    length-keyed = ap length (sym (front-keyed p clean bytes)) ∙ length-append (front p) bytes
+
+    pub says-digest : stateSays s digest ≡ rowSays (asked p) (p .«last_node») (keyOf p) bytes digest
+    unfolding finalized
+    says-digest = rw range-reached (ap (digested accepted) (digest-of-hash (closedDigest (pushed (fresh p) bytes)) ∙ digest-pushed p (clean .whole) bytes ∙ digest-is-hash p clean bytes))
+
+    minus : (x y z : ℕ) → z ≡ x + y → z - x ≡ y
+    minus x y z e = omega arith
+
+    pub says-count : stateSays s count ≡ rowSays (asked p) (p .«last_node») (keyOf p) bytes count
+    unfolding state.counted
+    says-count =
+        rw range-reached (ap (row.counted accepted) (minus (cond (leb 1 (p .«key_length»)) 128 0) (length bytes) (total (pushed (fresh p) bytes)) (total-reached ∙ ap (λ (n : ℕ). n + length bytes) (length-front p (clean .whole)))))
+
+    pub updated-accepted : (a : List ℕ) → leb (length (keyed BLAKE2b (keyOf p) bytes) + length a) limit ≡ true → updated s a ≡ record { number = accepted; state = pushed (fresh p) (bytes ++ a) }
+    unfolding updated
+    updated-accepted a e =
+        let f : leb (total s + length a) limit ≡ true = ap (λ (n : ℕ). leb (n + length a) limit) (total-reached ∙ sym length-keyed) ∙ e in
+        rw (range-reached, f, pushed-pushed (fresh p) bytes a)
+
+    pub updated-refused : (a : List ℕ) → leb (length (keyed BLAKE2b (keyOf p) bytes) + length a) limit ≡ false → updated s a ≡ record { number = total-over; state = s }
+    unfolding updated
+    updated-refused a e =
+        let f : leb (total s + length a) limit ≡ false = ap (λ (n : ℕ). leb (n + length a) limit) (total-reached ∙ sym length-keyed) ∙ e in
+        rw (range-reached, f)
+
+  -- the answers from some bytes on agree
+  Agree : List Call → Type 0
+  Agree cs = (bytes : List ℕ) → length (front p) + length bytes ≤ limit → stateAnswers (pushed (fresh p) bytes) cs ≡ rowAnswers (asked p) (p .«last_node») (keyOf p) bytes cs
+
+  -- an update whose test and answer are known, and the answers that follow it
+  turn : (a bytes : List ℕ) (cs : List Call) (b : Bool) (t : State) → leb (length (keyed BLAKE2b (keyOf p) bytes) + length a) limit ≡ b
+      → updated (pushed (fresh p) bytes) a ≡ record { number = cond b accepted total-over; state = t }
+      → stateAnswers t cs ≡ rowAnswers (asked p) (p .«last_node») (keyOf p) (cond b (bytes ++ a) bytes) cs
+      → stateAnswers (pushed (fresh p) bytes) (update a ∷ cs) ≡ rowAnswers (asked p) (p .«last_node») (keyOf p) bytes (update a ∷ cs)
+  unfolding stateAnswers rowAnswers
+  turn a bytes cs b t e f rest =
+      (λ i. taken (f i .number) ∷ stateAnswers (f i .state) cs)
+      ∙ ap (λ (l : List Answer). taken (cond b accepted total-over) ∷ l) rest
+      ∙ ap (λ (q : Bool). taken (cond q accepted total-over) ∷ rowAnswers (asked p) (p .«last_node») (keyOf p) (cond q (bytes ++ a) bytes) cs) (sym e)
+
+  after-update : (a : List ℕ) (cs : List Call) → Agree cs → Agree (update a ∷ cs)
+  unfolding Agree
+  after-update a cs rest bytes within = split (leb (length (keyed BLAKE2b (keyOf p) bytes) + length a) limit) refl
+    where
+      split : (b : Bool) → leb (length (keyed BLAKE2b (keyOf p) bytes) + length a) limit ≡ b
+          → stateAnswers (pushed (fresh p) bytes) (update a ∷ cs) ≡ rowAnswers (asked p) (p .«last_node») (keyOf p) bytes (update a ∷ cs)
+      split true e =
+          let l = length-keyed bytes within in
+          let n = length-append bytes a in
+          let more : length (front p) + length (bytes ++ a) ≤ limit = omega (arith, leb-true (length (keyed BLAKE2b (keyOf p) bytes) + length a) limit e) in
+          turn a bytes cs true (pushed (fresh p) (bytes ++ a)) e (updated-accepted bytes within a e) (rest (bytes ++ a) more)
+      split false e = turn a bytes cs false (pushed (fresh p) bytes) e (updated-refused bytes within a e) (rest bytes within)
+
+  agree : (cs : List Call) → Agree cs
+  unfolding Agree stateAnswers rowAnswers
+  agree [] bytes within = refl
+  agree (update a ∷ cs) bytes within = after-update a cs (agree cs) bytes within
+  agree (digest ∷ cs) bytes within = λ i. says-digest bytes within i ∷ agree cs bytes within i
+  agree (count ∷ cs) bytes within = λ i. says-count bytes within i ∷ agree cs bytes within i
+
+  pub history : (cs : List Call) → stateAnswers (fresh p) cs ≡ rowAnswers (asked p) (p .«last_node») (keyOf p) [] cs
+  history cs =
+      let few = front-short p (clean .whole) in
+      ap (λ (t : State). stateAnswers t cs) (sym (pushed-none (fresh p) (sound-fresh p (clean .whole)))) ∙ unfold Agree in agree cs [] (omega arith)
+
+  -- the count is the number of message bytes, the key block not counted
+  pub count-of-bytes : (bytes : List ℕ) → length (front p) + length bytes ≤ limit → stateSays (pushed (fresh p) bytes) count ≡ row.counted accepted (length bytes)
+  count-of-bytes bytes within = says-count bytes within
+
+  -- the one-shot answer is that of a state that took the message, with a key or without
+  pub one-shot-is-incremental : (m : List ℕ) → length (front p) + length m ≤ limit → hashed p m ≡ finalized (updated (fresh p) m .state)
+  unfolding hashed
+  one-shot-is-incremental m within =
+      rw (good, le-leb (length (front p) + length m) limit within)
+      (sym (ap (λ (a : StateAnswer). finalized (a .state)) (updated-within p (clean .whole) good m within) ∙ finalized-within p (clean .whole) good m within))

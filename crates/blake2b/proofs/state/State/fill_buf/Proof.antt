@@ -1,0 +1,20 @@
+-- `blake2b::state::State::fill_buf` meets its contract.
+-- Assumes nothing.
+use mathlib.Core.Path.{_≡_}
+use native.Mathlib.Omega.{arith}
+use lib.ListN.{length}
+use Rattle.blake2b.proofs.States.{fill-made}
+use borrow.Author.Needs.{needs}
+use Rattle.blake2b.proofs.state.State.fill_buf.Statement.{statement}
+use Rattle.blake2b.proofs.state.State.fill_buf.Tie as tie
+
+sized : (c : tie.Start) → length (c .args .self .buf) ≡ 128
+sized c = search needs
+
+returns : tie.Need-returns
+returns c =
+    let s = c .before .before .before in
+    fill-made (s .args .self) (sized s) (omega arith) (s .args .input .now) (c .stored .ensures)
+
+pub fill-buf-spec : {M : Type 1} → statement M
+fill-buf-spec = tie.close (tie.spec (λ c κs. search needs) (λ c. search needs) returns)

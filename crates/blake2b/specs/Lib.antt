@@ -1,0 +1,4 @@
+pub mod Hash
+pub mod Params
+pub mod State
+pub mod Row

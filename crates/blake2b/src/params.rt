@@ -1,0 +1,283 @@
+// The parameters: the defaults, a setter for each, and the words that a hash starts from.
+// A setter overwrites its whole field, so that nothing of an older value stays.
+use crate::hash::is_digest_length;
+use numbers::ACCEPTED;
+use numbers::DIGEST_LENGTH;
+use numbers::INNER_LENGTH;
+use numbers::KEY_LENGTH;
+use numbers::PERSONAL_LENGTH;
+use numbers::RECORD;
+use numbers::SALT_LENGTH;
+use portable::padded;
+use portable::parameter_words;
+use portable::zero_block;
+ghost use mathlib.Core.Path.{_≡_};
+ghost use mathlib.Core.Bool.{true};
+ghost use Prim.Native.Nat.{_≤_};
+ghost use lib.Dec.{leb};
+ghost use lib.ListN.{length};
+ghost use Rattle.definitions.specs.Words.{pad};
+ghost use Rattle.definitions.specs.Family.{BLAKE2b};
+ghost use Rattle.definitions.specs.Hash.{start};
+ghost use Rattle.numbers.specs.Numbers.{accepted, digest-length, key-length, salt-length, personal-length, inner-length};
+ghost use Rattle.blake2b.specs.Hash.{isDigestLength};
+ghost use Rattle.blake2b.specs.Params.{defaults, inRange, asked, answered, withNumber, withKey, withSalt, withPersonal, withLastNode, hash-length-at, fanout-at, max-depth-at, max-leaf-length-at, node-offset-at, node-depth-at, inner-hash-length-at};
+
+pub struct Params {
+    pub(crate) hash_length: u8,
+    pub(crate) key_length: u8,
+    pub(crate) key_block: [u8; 128],
+    pub(crate) salt: [u8; 16],
+    pub(crate) personal: [u8; 16],
+    pub(crate) fanout: u8,
+    pub(crate) max_depth: u8,
+    pub(crate) max_leaf_length: u32,
+    pub(crate) node_offset: u64,
+    pub(crate) node_depth: u8,
+    pub(crate) inner_hash_length: u8,
+    pub(crate) last_node: bool,
+}
+
+// What a setter answers: the changed parameters, or the old ones with a refusal.
+pub struct ParamsAnswer {
+    pub number: u8,
+    pub params: Params,
+}
+
+// The bytes, of which there are at most sixteen, and zeros up to sixteen.
+fn padded16(bytes: &[u8]) -> [u8; 16]
+    requires { ⌜ length (now bytes) ≤ 16 ⌝ }
+    ensures { λ r. ⌜ r ≡ pad 16 (now (bytes .entry)) ⌝ }
+{
+    let b = padded(bytes);
+    [
+        b[0],
+        b[1],
+        b[2],
+        b[3],
+        b[4],
+        b[5],
+        b[6],
+        b[7],
+        b[8],
+        b[9],
+        b[10],
+        b[11],
+        b[12],
+        b[13],
+        b[14],
+        b[15],
+    ]
+}
+
+fn answer(number: u8, params: Params) -> ParamsAnswer
+    ensures { λ r. ⌜ r ≡ record { number = number; params = params } ⌝ }
+{
+    ParamsAnswer { number, params }
+}
+
+impl Params {
+    pub const OUTBYTES: usize = 64;
+
+    pub const KEYBYTES: usize = 64;
+
+    pub const SALTBYTES: usize = 16;
+
+    pub const PERSONALBYTES: usize = 16;
+
+    pub const BLOCKBYTES: usize = 128;
+
+    pub fn new() -> Self
+        ensures { λ r. ⌜ r ≡ defaults ⌝ }
+    {
+        let key_block = zero_block();
+        Params {
+            hash_length: 64,
+            key_length: 0,
+            key_block,
+            salt: [0; 16],
+            personal: [0; 16],
+            fanout: 1,
+            max_depth: 1,
+            max_leaf_length: 0,
+            node_offset: 0,
+            node_depth: 0,
+            inner_hash_length: 0,
+            last_node: false,
+        }
+    }
+
+    // Whether the record keeps its stated ranges.
+    pub fn in_range(self) -> bool
+        ensures { λ r. ⌜ r ≡ inRange self ⌝ }
+    {
+        if !is_digest_length(self.hash_length as usize) {
+            return false;
+        }
+        if self.key_length as usize > Params::KEYBYTES {
+            return false;
+        }
+        self.inner_hash_length as usize <= Params::OUTBYTES
+    }
+
+    pub fn hash_length(self, length: usize) -> ParamsAnswer
+        ensures { λ r. ⌜ r ≡ answered self (isDigestLength length) digest-length (withNumber hash-length-at length self) ⌝ }
+    {
+        if !self.in_range() {
+            return answer(RECORD, self);
+        }
+        if !is_digest_length(length) {
+            return answer(DIGEST_LENGTH, self);
+        }
+        let mut p = self;
+        p.hash_length = length as u8;
+        answer(ACCEPTED, p)
+    }
+
+    // A key, which an empty one takes away.
+    pub fn key(self, key: &[u8]) -> ParamsAnswer
+        ensures { λ r. ⌜ r ≡ answered self (leb (length (now (key .entry))) 64) key-length (withKey (now (key .entry)) self) ⌝ }
+    {
+        if !self.in_range() {
+            return answer(RECORD, self);
+        }
+        if key.len() > Params::KEYBYTES {
+            return answer(KEY_LENGTH, self);
+        }
+        let block = padded(key);
+        let mut p = self;
+        p.key_length = key.len() as u8;
+        p.key_block = block;
+        answer(ACCEPTED, p)
+    }
+
+    pub fn salt(self, salt: &[u8]) -> ParamsAnswer
+        ensures { λ r. ⌜ r ≡ answered self (leb (length (now (salt .entry))) 16) salt-length (withSalt (now (salt .entry)) self) ⌝ }
+    {
+        if !self.in_range() {
+            return answer(RECORD, self);
+        }
+        if salt.len() > Params::SALTBYTES {
+            return answer(SALT_LENGTH, self);
+        }
+        let field = padded16(salt);
+        let mut p = self;
+        p.salt = field;
+        answer(ACCEPTED, p)
+    }
+
+    pub fn personal(self, personalization: &[u8]) -> ParamsAnswer
+        ensures { λ r. ⌜ r ≡ answered self (leb (length (now (personalization .entry))) 16) personal-length (withPersonal (now (personalization .entry)) self) ⌝ }
+    {
+        if !self.in_range() {
+            return answer(RECORD, self);
+        }
+        if personalization.len() > Params::PERSONALBYTES {
+            return answer(PERSONAL_LENGTH, self);
+        }
+        let field = padded16(personalization);
+        let mut p = self;
+        p.personal = field;
+        answer(ACCEPTED, p)
+    }
+
+    pub fn fanout(self, fanout: u8) -> ParamsAnswer
+        ensures { λ r. ⌜ r ≡ answered self true accepted (withNumber fanout-at fanout self) ⌝ }
+    {
+        if !self.in_range() {
+            return answer(RECORD, self);
+        }
+        let mut p = self;
+        p.fanout = fanout;
+        answer(ACCEPTED, p)
+    }
+
+    pub fn max_depth(self, depth: u8) -> ParamsAnswer
+        ensures { λ r. ⌜ r ≡ answered self true accepted (withNumber max-depth-at depth self) ⌝ }
+    {
+        if !self.in_range() {
+            return answer(RECORD, self);
+        }
+        let mut p = self;
+        p.max_depth = depth;
+        answer(ACCEPTED, p)
+    }
+
+    pub fn max_leaf_length(self, length: u32) -> ParamsAnswer
+        ensures { λ r. ⌜ r ≡ answered self true accepted (withNumber max-leaf-length-at length self) ⌝ }
+    {
+        if !self.in_range() {
+            return answer(RECORD, self);
+        }
+        let mut p = self;
+        p.max_leaf_length = length;
+        answer(ACCEPTED, p)
+    }
+
+    pub fn node_offset(self, offset: u64) -> ParamsAnswer
+        ensures { λ r. ⌜ r ≡ answered self true accepted (withNumber node-offset-at offset self) ⌝ }
+    {
+        if !self.in_range() {
+            return answer(RECORD, self);
+        }
+        let mut p = self;
+        p.node_offset = offset;
+        answer(ACCEPTED, p)
+    }
+
+    pub fn node_depth(self, depth: u8) -> ParamsAnswer
+        ensures { λ r. ⌜ r ≡ answered self true accepted (withNumber node-depth-at depth self) ⌝ }
+    {
+        if !self.in_range() {
+            return answer(RECORD, self);
+        }
+        let mut p = self;
+        p.node_depth = depth;
+        answer(ACCEPTED, p)
+    }
+
+    pub fn inner_hash_length(self, length: usize) -> ParamsAnswer
+        ensures { λ r. ⌜ r ≡ answered self (leb length 64) inner-length (withNumber inner-hash-length-at length self) ⌝ }
+    {
+        if !self.in_range() {
+            return answer(RECORD, self);
+        }
+        if length > Params::OUTBYTES {
+            return answer(INNER_LENGTH, self);
+        }
+        let mut p = self;
+        p.inner_hash_length = length as u8;
+        answer(ACCEPTED, p)
+    }
+
+    pub fn last_node(self, last_node: bool) -> ParamsAnswer
+        ensures { λ r. ⌜ r ≡ answered self true accepted (withLastNode «last_node» self) ⌝ }
+    {
+        if !self.in_range() {
+            return answer(RECORD, self);
+        }
+        let mut p = self;
+        p.last_node = last_node;
+        answer(ACCEPTED, p)
+    }
+
+    // The words that a hash starts from.
+    pub fn to_words(self) -> [u64; 8]
+        ensures { λ r. ⌜ r ≡ start BLAKE2b (asked self) ⌝ }
+    {
+        let salt = self.salt;
+        let personal = self.personal;
+        parameter_words(
+            self.hash_length,
+            self.key_length,
+            self.fanout,
+            self.max_depth,
+            self.max_leaf_length,
+            self.node_offset,
+            self.node_depth,
+            self.inner_hash_length,
+            salt,
+            personal,
+        )
+    }
+}

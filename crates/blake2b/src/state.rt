@@ -1,0 +1,423 @@
+// The state of a hash that takes its message piece by piece, and the hash of a whole message.
+// A last block, also a full one, waits in the buffer until more has come.
+use crate::hash::Hash;
+use crate::hash::HashAnswer;
+use crate::hash::is_digest_length;
+use crate::params::Params;
+use numbers::ACCEPTED;
+use numbers::LIMIT;
+use numbers::RECORD;
+use numbers::TOTAL;
+use portable::Compressed;
+use portable::Finalize;
+use portable::LastNode;
+use portable::Stride;
+use portable::compress1_loop;
+use portable::zero_block;
+ghost use mathlib.Core.Path.{_≡_};
+ghost use mathlib.Core.List.{_++_};
+ghost use Prim.Native.Nat.{_+_, _*_, _^_, _<_, _≤_};
+ghost use lib.ListN.{length, drop};
+ghost use lib.Seq.{paste};
+ghost use Rattle.definitions.specs.Family.{BLAKE2b};
+ghost use Rattle.laws.specs.Chain.{spare, absorb};
+ghost use Rattle.laws.specs.Blocks.{onBytes};
+ghost use Rattle.blake2b.specs.Hash.{hashOf, noHash};
+ghost use Rattle.blake2b.specs.Params.{defaults};
+ghost use Rattle.blake2b.specs.State.{lastNodeOf, rangeOf, stateInRange, zeroState, fresh, opened, pending, moved, updated, lastNodeSet, finalized, counted, digest, hashed};
+
+pub struct State {
+    pub(crate) words: [u64; 8],
+    // The bytes that were compressed.
+    pub(crate) count: u64,
+    // Zeros behind the bytes that wait.
+    pub(crate) buf: [u8; 128],
+    pub(crate) buflen: usize,
+    pub(crate) last_node: bool,
+    pub(crate) hash_length: u8,
+    pub(crate) is_keyed: bool,
+}
+
+pub struct StateAnswer {
+    pub number: u8,
+    pub state: State,
+}
+
+pub struct CountAnswer {
+    pub number: u8,
+    pub count: u64,
+}
+
+fn last_node_of(yes: bool) -> LastNode
+    ensures { λ r. ⌜ r ≡ lastNodeOf yes ⌝ }
+{
+    if yes { LastNode::Yes } else { LastNode::No }
+}
+
+// Whether a record with these fields keeps its stated ranges.
+fn range_of(hash_length: u8, buflen: usize, count: u64, is_keyed: bool) -> bool
+    ensures { λ r. ⌜ r ≡ rangeOf «hash_length» buflen count «is_keyed» ⌝ }
+{
+    if !is_digest_length(hash_length as usize) {
+        return false;
+    }
+    if buflen > 128 {
+        return false;
+    }
+    let held = buflen as u64;
+    if held > LIMIT - count {
+        return false;
+    }
+    if is_keyed {
+        return 128 <= count + held;
+    }
+    true
+}
+
+// The bytes of input stored from an index on.
+fn stored(buf: [u8; 128], at: usize, input: &[u8]) -> [u8; 128]
+    requires { ⌜ at + length (now input) ≤ 128 ⌝ }
+    ensures { λ r. ⌜ r ≡ paste buf at (now (input .entry)) (length (now (input .entry))) ⌝ }
+{
+    let mut b = buf;
+    let mut i: usize = 0;
+    while i < input.len() {
+        let p = at + i;
+        b[p] = input[i];
+        i += 1;
+    }
+    b
+}
+
+// Whole blocks, none of them the last.
+fn absorbed(words: [u64; 8], count: u64, input: &[u8], blocks: usize) -> Compressed
+    requires { ⌜ (0 < blocks) × (length (now input) ≡ 128 * blocks) × (count + length (now input) < 2 ^ 64) ⌝ }
+    ensures { λ r. ⌜ r .words ≡ absorb 128 (onBytes BLAKE2b) 128 words count (now (input .entry)) blocks ⌝ }
+{
+    compress1_loop(
+        input,
+        words,
+        count,
+        LastNode::No,
+        Finalize::No,
+        Stride::Serial,
+    )
+}
+
+// Of n bytes, the blocks that may go so that a byte is left.
+fn spare_blocks(n: usize) -> usize
+    ensures { λ r. ⌜ r ≡ spare 128 0 n ⌝ }
+{
+    if n < 1 {
+        return 0;
+    }
+    (n - 1) / Params::BLOCKBYTES
+}
+
+// The part of the input that is not yet taken, n bytes of it being.
+fn not_taken<'a>(input: &'a [u8], n: usize) -> &'a [u8]
+    requires { ⌜ n ≤ length (now input) ⌝ }
+    ensures { λ r. ⌜ now r ≡ drop n (now (input .entry)) ⌝ }
+{
+    &input[n..]
+}
+
+impl State {
+    pub fn new() -> Self
+        ensures { λ r. ⌜ r ≡ fresh defaults ⌝ }
+    {
+        let params = Params::new();
+        params.with_params()
+    }
+
+    // What a refusal answers in place of a state, and what a closed slot holds.
+    pub fn zero() -> Self
+        ensures { λ r. ⌜ r ≡ zeroState ⌝ }
+    {
+        let buf = zero_block();
+        State {
+            words: [0; 8],
+            count: 0,
+            buf,
+            buflen: 0,
+            last_node: false,
+            hash_length: 0,
+            is_keyed: false,
+        }
+    }
+
+    // Whether the record keeps its stated ranges.
+    pub fn in_range(self) -> bool
+        ensures { λ r. ⌜ r ≡ stateInRange self ⌝ }
+    {
+        range_of(self.hash_length, self.buflen, self.count, self.is_keyed)
+    }
+
+    // The input fits the buffer.
+    fn fill_buf(self, input: &[u8]) -> Self
+        requires { ⌜ self .buflen + length (now input) ≤ 128 ⌝ }
+        ensures { λ r. ⌜ r ≡ moved self (pending self ++ now (input .entry)) 0 ⌝ }
+    {
+        let at = self.buflen;
+        let b = self.buf;
+        let buf = stored(b, at, input);
+        let mut s = self;
+        s.buf = buf;
+        s.buflen = at + input.len();
+        s
+    }
+
+    // The buffer is full, and more is to come.
+    fn compress_buffer(self) -> Self
+        requires { ⌜ (self .buflen ≡ 128) × (self .count + 128 < 2 ^ 64) ⌝ }
+        ensures { λ r. ⌜ r ≡ moved self (pending self) 1 ⌝ }
+    {
+        let w = self.words;
+        let b = self.buf;
+        let run = absorbed(w, self.count, &b, 1);
+        let words = run.words;
+        let empty = zero_block();
+        let mut s = self;
+        s.words = words;
+        s.count = self.count + 128;
+        s.buf = empty;
+        s.buflen = 0;
+        s
+    }
+
+    // The buffer is empty, and the input is whole blocks.
+    fn compress_blocks(self, input: &[u8], blocks: usize) -> Self
+        requires { ⌜ (self .buflen ≡ 0) × (length (now input) ≡ 128 * blocks) × (self .count + length (now input) < 2 ^ 64) ⌝ }
+        ensures { λ r. ⌜ r ≡ moved self (now (input .entry)) blocks ⌝ }
+    {
+        if blocks == 0 {
+            return self;
+        }
+        let w = self.words;
+        let run = absorbed(w, self.count, input, blocks);
+        let words = run.words;
+        let empty = zero_block();
+        let mut s = self;
+        s.words = words;
+        s.count = self.count + input.len() as u64;
+        s.buf = empty;
+        s
+    }
+
+    // The buffer is empty: all blocks but the last go straight from the input.
+    fn take_long(self, input: &[u8]) -> Self
+        requires { ⌜ (self .buflen ≡ 0) × (self .count + length (now input) < 2 ^ 64) ⌝ }
+        ensures { λ r. ⌜ r ≡ moved self (pending self ++ now (input .entry)) (spare 128 0 (length (now (input .entry)))) ⌝ }
+    {
+        let blocks = spare_blocks(input.len());
+        let end = Params::BLOCKBYTES * blocks;
+        let s = self.compress_blocks(&input[..end], blocks);
+        s.fill_buf(not_taken(input, end))
+    }
+
+    // The buffer has no room for the input: it is filled and goes, and the rest follows.
+    fn spill(self, input: &[u8]) -> Self
+        requires { ⌜ (self .buflen ≤ 128) × (128 < self .buflen + length (now input)) × (self .count + self .buflen + length (now input) < 2 ^ 64) ⌝ }
+        ensures { λ r. ⌜ r ≡ moved self (pending self ++ now (input .entry)) (spare 128 0 (self .buflen + length (now (input .entry)))) ⌝ }
+    {
+        let room = Params::BLOCKBYTES - self.buflen;
+        let full = self.fill_buf(&input[..room]);
+        let s = full.compress_buffer();
+        s.take_long(not_taken(input, room))
+    }
+
+    pub fn update(self, input: &[u8]) -> StateAnswer
+        ensures { λ r. ⌜ r ≡ updated self (now (input .entry)) ⌝ }
+    {
+        let held = self.buflen;
+        if !range_of(self.hash_length, held, self.count, self.is_keyed) {
+            return StateAnswer {
+                number: RECORD,
+                state: self,
+            };
+        }
+        let n = input.len();
+        let left = LIMIT - self.count - (held as u64);
+        if n as u64 > left {
+            return StateAnswer {
+                number: TOTAL,
+                state: self,
+            };
+        }
+        if n <= Params::BLOCKBYTES - held {
+            let state = self.fill_buf(input);
+            return StateAnswer {
+                number: ACCEPTED,
+                state,
+            };
+        }
+        if held == 0 {
+            let state = self.take_long(input);
+            return StateAnswer {
+                number: ACCEPTED,
+                state,
+            };
+        }
+        let state = self.spill(input);
+        StateAnswer {
+            number: ACCEPTED,
+            state,
+        }
+    }
+
+    // The state may go on: it is a copy that is asked.
+    pub fn finalize(self) -> HashAnswer
+        ensures { λ r. ⌜ r ≡ finalized self ⌝ }
+    {
+        let held = self.buflen;
+        if !range_of(self.hash_length, held, self.count, self.is_keyed) {
+            return refused(RECORD);
+        }
+        let w = self.words;
+        let b = self.buf;
+        let run = compress1_loop(
+            &b[..held],
+            w,
+            self.count,
+            last_node_of(self.last_node),
+            Finalize::Yes,
+            Stride::Serial,
+        );
+        let words = run.words;
+        Hash::from_words(words, self.hash_length as usize)
+    }
+
+    pub fn set_last_node(self, last_node: bool) -> StateAnswer
+        ensures { λ r. ⌜ r ≡ lastNodeSet self «last_node» ⌝ }
+    {
+        if !self.in_range() {
+            return StateAnswer {
+                number: RECORD,
+                state: self,
+            };
+        }
+        let mut s = self;
+        s.last_node = last_node;
+        StateAnswer {
+            number: ACCEPTED,
+            state: s,
+        }
+    }
+
+    // The message bytes that came: the key block is not one of them.
+    pub fn count(self) -> CountAnswer
+        ensures { λ r. ⌜ r ≡ counted self ⌝ }
+    {
+        if !self.in_range() {
+            return CountAnswer {
+                number: RECORD,
+                count: 0,
+            };
+        }
+        let all = self.count + self.buflen as u64;
+        if self.is_keyed {
+            return CountAnswer {
+                number: ACCEPTED,
+                count: all - 128,
+            };
+        }
+        CountAnswer {
+            number: ACCEPTED,
+            count: all,
+        }
+    }
+}
+
+fn refused(number: u8) -> HashAnswer
+    ensures { λ r. ⌜ r ≡ noHash number ⌝ }
+{
+    HashAnswer {
+        number,
+        hash: Hash::zero(),
+    }
+}
+
+impl Params {
+    // The state of no message bytes: the key block waits in the buffer where there is a key.
+    pub(crate) fn with_params(self) -> State
+        ensures { λ r. ⌜ r ≡ fresh self ⌝ }
+    {
+        let words = self.to_words();
+        if self.key_length > 0 {
+            let key_block = self.key_block;
+            return State {
+                words,
+                count: 0,
+                buf: key_block,
+                buflen: Params::BLOCKBYTES,
+                last_node: self.last_node,
+                hash_length: self.hash_length,
+                is_keyed: true,
+            };
+        }
+        let buf = zero_block();
+        State {
+            words,
+            count: 0,
+            buf,
+            buflen: 0,
+            last_node: self.last_node,
+            hash_length: self.hash_length,
+            is_keyed: false,
+        }
+    }
+
+    pub fn to_state(self) -> StateAnswer
+        ensures { λ r. ⌜ r ≡ opened self ⌝ }
+    {
+        if !self.in_range() {
+            let state = State::zero();
+            return StateAnswer {
+                number: RECORD,
+                state,
+            };
+        }
+        let state = self.with_params();
+        StateAnswer {
+            number: ACCEPTED,
+            state,
+        }
+    }
+
+    // The digest of a whole message. Without a key it goes straight through the block loop.
+    pub fn hash(self, input: &[u8]) -> HashAnswer
+        ensures { λ r. ⌜ r ≡ hashed self (now (input .entry)) ⌝ }
+    {
+        if !self.in_range() {
+            return refused(RECORD);
+        }
+        if self.key_length > 0 {
+            let taken = self.with_params().update(input);
+            if taken.number != ACCEPTED {
+                return refused(TOTAL);
+            }
+            let state = taken.state;
+            return state.finalize();
+        }
+        let words = self.to_words();
+        let run = compress1_loop(
+            input,
+            words,
+            0,
+            last_node_of(self.last_node),
+            Finalize::Yes,
+            Stride::Serial,
+        );
+        let last = run.words;
+        Hash::from_words(last, self.hash_length as usize)
+    }
+}
+
+// The digest of a message with the default parameters.
+pub fn blake2b(input: &[u8]) -> Hash
+    ensures { λ r. ⌜ r ≡ hashOf (digest defaults (now (input .entry))) ⌝ }
+{
+    let params = Params::new();
+    let done = params.hash(input);
+    done.hash
+}

@@ -1,0 +1,105 @@
+// Runs a script of calls: it comes on standard input, and the answers go to standard output.
+// The work is crate replay's; here a line is put together from what the reads bring.
+use bytes::scan::find;
+use libc::STDIN_FILENO;
+use libc::STDOUT_FILENO;
+use replay::Session;
+use replay::part;
+use replay::put;
+use replay::run_line;
+
+// The session, how many bytes of an unfinished line are held, and whether there may be more to read.
+struct Place {
+    session: Session,
+    held: usize,
+    more: bool,
+}
+
+// A line that is complete: its answer is written. The longest one shows 1,024 bytes.
+fn run(session: Session, line: &[u8], space: &mut [u8]) -> Session {
+    let mut out = [0u8; 4096];
+    let done = run_line(session, line, space, &mut out);
+    io::write_all(STDOUT_FILENO, part(&out, 0, done.length));
+    done.session
+}
+
+// A part of a line, and whether it completes the line. What has no room is left out: the line is too long whatever it is.
+fn take_part(place: Place, text: &[u8], last: bool, line: &mut [u8], space: &mut [u8]) -> Place {
+    let session = place.session;
+    let held = put(line, place.held, text);
+    if last {
+        let next = run(session, part(line, 0, held), space);
+        return Place {
+            session: next,
+            held: 0,
+            more: true,
+        };
+    }
+    Place {
+        session,
+        held,
+        more: true,
+    }
+}
+
+// Bytes that were read.
+fn take(place: Place, piece: &[u8], line: &mut [u8], space: &mut [u8]) -> Place {
+    let mut now = place;
+    let mut at: usize = 0;
+    while at < piece.len() {
+        let end = find(piece, at, piece.len(), b'\n');
+        let text = part(piece, at, end);
+        at = end + 1;
+        let next = take_part(now, text, end < piece.len(), line, space);
+        now = next;
+    }
+    now
+}
+
+// The input has ended, or can't be read. A last line needs no line feed.
+fn finish(place: Place, line: &[u8], space: &mut [u8], readable: bool) -> Place {
+    let mut last = place;
+    last.more = false;
+    if readable {
+        let session = place.session;
+        let next = run(session, part(line, 0, place.held), space);
+        last.session = next;
+        return last;
+    }
+    io::write_all(STDOUT_FILENO, b"unreadable\n");
+    last
+}
+
+// One read, and the lines that it completes.
+fn read_some(place: Place, line: &mut [u8], space: &mut [u8]) -> Place {
+    let mut piece = io::large_buffer();
+    let got = libc::read(STDIN_FILENO, &mut piece);
+    if got <= 0 {
+        return finish(place, line, space, got == 0);
+    }
+    let n = io::count(got, &piece);
+    take(place, &piece[..n], line, space)
+}
+
+// A proved loop has to end, and nothing says that the input does: no run has so many turns.
+fn read_all(line: &mut [u8], space: &mut [u8]) {
+    let session = Session::new();
+    let mut place = Place {
+        session,
+        held: 0,
+        more: true,
+    };
+    let mut turns = u64::MAX;
+    while turns > 0 && place.more {
+        let next = read_some(place, line, space);
+        place = next;
+        turns -= 1;
+    }
+}
+
+// A line's buffer has a byte more than the longest line, so that a longer one is seen; messages are made in the space.
+fn main() {
+    let mut line = [0u8; 8193];
+    let mut space = [0u8; 4194304];
+    read_all(&mut line, &mut space);
+}

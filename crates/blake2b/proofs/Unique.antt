@@ -26,6 +26,10 @@ use Rattle.blake2b.proofs.params.Params.node_offset.Reads as params-nod
 use Rattle.blake2b.proofs.params.Params.node_depth.Reads as params-node-depth
 use Rattle.blake2b.proofs.params.Params.inner_hash_length.Reads as params-inner-hash-length
 use Rattle.blake2b.proofs.params.Params.last_node.Reads as params-last-node
+use Rattle.blake2b.proofs.params.Params.is_keyed.Reads as params-is-keyed
+use Rattle.blake2b.proofs.params.Params.key_block.Reads as params-key-block
+use Rattle.blake2b.proofs.params.Params.digest_length.Reads as params-digest-length
+use Rattle.blake2b.proofs.params.Params.is_last_node.Reads as params-is-last-node
 use Rattle.blake2b.proofs.params.Params.to_words.Reads as params-to-words
 use Rattle.blake2b.proofs.params.Params.to_state.Reads as params-to-state
 use Rattle.blake2b.proofs.params.Params.hash.Reads as params-hash
@@ -113,6 +117,18 @@ params-inner-hash-length-unique κs args r q exit e f = unique e f
 
 pub params-last-node-unique : (κs : _) (args : _) (r q : _) (exit : _) → params-last-node.Post κs args r exit → params-last-node.Post κs args q exit → r ≡ q
 params-last-node-unique κs args r q exit e f = unique e f
+
+pub params-is-keyed-unique : (κs : _) (args : _) (r q : _) (exit : _) → params-is-keyed.Post κs args r exit → params-is-keyed.Post κs args q exit → r ≡ q
+params-is-keyed-unique κs args r q exit e f = unique e f
+
+pub params-key-block-unique : (κs : _) (args : _) (r q : _) (exit : _) → params-key-block.Post κs args r exit → params-key-block.Post κs args q exit → r ≡ q
+params-key-block-unique κs args r q exit e f = unique e f
+
+pub params-digest-length-unique : (κs : _) (args : _) (r q : _) (exit : _) → params-digest-length.Post κs args r exit → params-digest-length.Post κs args q exit → r ≡ q
+params-digest-length-unique κs args r q exit e f = unique e f
+
+pub params-is-last-node-unique : (κs : _) (args : _) (r q : _) (exit : _) → params-is-last-node.Post κs args r exit → params-is-last-node.Post κs args q exit → r ≡ q
+params-is-last-node-unique κs args r q exit e f = unique e f
 
 pub params-to-words-unique : (κs : _) (args : _) (r q : _) (exit : _) → params-to-words.Post κs args r exit → params-to-words.Post κs args q exit → r ≡ q
 params-to-words-unique κs args r q exit e f = unique e f

@@ -261,6 +261,31 @@ impl Params {
         answer(ACCEPTED, p)
     }
 
+    // What the layers above read of the parameters.
+    pub fn is_keyed(self) -> bool
+        ensures { λ r. ⌜ r ≡ leb 1 (self .«key_length») ⌝ }
+    {
+        1 <= self.key_length
+    }
+
+    pub fn key_block(self) -> [u8; 128]
+        ensures { λ r. ⌜ r ≡ self .«key_block» ⌝ }
+    {
+        self.key_block
+    }
+
+    pub fn digest_length(self) -> u8
+        ensures { λ r. ⌜ r ≡ self .«hash_length» ⌝ }
+    {
+        self.hash_length
+    }
+
+    pub fn is_last_node(self) -> bool
+        ensures { λ r. ⌜ r ≡ self .«last_node» ⌝ }
+    {
+        self.last_node
+    }
+
     // The words that a hash starts from.
     pub fn to_words(self) -> [u64; 8]
         ensures { λ r. ⌜ r ≡ start BLAKE2b (asked self) ⌝ }

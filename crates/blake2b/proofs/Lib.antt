@@ -6,6 +6,7 @@ pub mod Pushes
 pub mod Ranges
 pub mod Rows
 pub mod Setters
+pub mod Sizes
 pub mod States
 pub mod Turns
 pub mod Unique

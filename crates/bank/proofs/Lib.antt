@@ -1,0 +1,4 @@
+pub mod Batches
+pub mod Replies
+pub mod Steps
+pub mod Written

@@ -1,0 +1,115 @@
+-- What a slot's functions make of their answers is the rules' reply, case by case.
+-- Assumes nothing.
+use mathlib.Core.Path.{_≡_, refl, sym, ap, _∙_}
+use mathlib.Core.Bool.{Bool, true, false, not, cond}
+use mathlib.Core.List.{List, []}
+use Prim.Native.Nat.{ℕ, _+_, _-_}
+use native.Mathlib.Omega.{arith}
+use borrow.Author.Tests.{not-true, not-false}
+use lib.ListN.{length, take, drop}
+use Rattle.definitions.specs.Words.{pad}
+use Rattle.laws.specs.Chain.{zeros}
+use Rattle.numbers.specs.Numbers.{accepted, slot-closed, piece-outside, slot-open, pieceOk}
+use Rattle.blake2b.specs.Hash.{hashOf, digestOf, zeroHash}
+use Rattle.blake2b.specs.Params.{inRange}
+use Rattle.blake2b.specs.State.{stateInRange, closedDigest}
+use Rattle.blake2b.specs.State as state
+use Rattle.blake2b.specs.declared.params.Params.{Params}
+use Rattle.blake2b.specs.declared.hash.Hash.{Hash}
+use Rattle.blake2b.specs.declared.hash.HashAnswer.{HashAnswer}
+use Rattle.blake2b.specs.declared.state.State.{State}
+use Rattle.blake2b.specs.declared.state.StateAnswer.{StateAnswer}
+use Rattle.blake2b.specs.declared.state.CountAnswer.{CountAnswer}
+use Rattle.blake2b.proofs.Digests.{digest-of-hash}
+use Rattle.bank.specs.Rules.{reply, fed, piece, opening, update, digest, count, close}
+use Rattle.bank.specs.Slots.{closedSlot, slotGood, slotUpdated, slotDigested, slotCounted, slots, slotAnswer, hashAnswer, countAnswer}
+use Rattle.bank.specs.declared.piece.Piece.{Piece}
+use Rattle.bank.specs.declared.slot.Slot.{Slot}
+use Rattle.bank.specs.declared.slot.SlotAnswer.{SlotAnswer}
+
+-- the digest of a state, as a record
+pub record-of-digest : (s : State) → state.finalized s .hash ≡ hashOf (digestOf (state.finalized s .hash))
+unfolding state.finalized pad zeros
+record-of-digest s = split (stateInRange s) refl
+  where
+    whole : (d : List ℕ) → hashOf d ≡ hashOf (digestOf (hashOf d))
+    whole d = sym (ap hashOf (digest-of-hash d))
+
+    split : (b : Bool) → stateInRange s ≡ b → state.finalized s .hash ≡ hashOf (digestOf (state.finalized s .hash))
+    split true e = rw e (whole (closedDigest s))
+    split false e = rw e (whole [])
+
+rest : (a b : ℕ) → a + b - a ≡ b
+rest a b = omega arith
+
+module _ (s : Slot) where
+  pub range-open : s .«is_open» ≡ true → stateInRange (s .state) ≡ slotGood s
+  unfolding slotGood
+  range-open e = rw e
+
+  pub range-closed : s .«is_open» ≡ false → true ≡ slotGood s
+  unfolding slotGood
+  range-closed e = rw e
+
+  -- an open slot
+  module _ (e : s .«is_open» ≡ true) where
+    pub open-twice : (p : Params) → record { number = slot-open; slot = s } ≡ slotAnswer (reply slots s (opening p))
+    unfolding reply
+    open-twice p = rw e
+
+    pub open-updated : (d : List ℕ) {a : StateAnswer} → a ≡ state.updated (s .state) d
+        → record { number = a .number; slot = record { «is_open» = true; state = a .state } } ≡ slotAnswer (reply slots s (update d))
+    unfolding reply slotUpdated
+    open-updated d f = rw (e, f)
+
+    pub open-outside : (p : Piece) (d : List ℕ) → pieceOk (p .start) (p .length) (length d) ≡ false
+        → record { number = piece-outside; slot = s } ≡ slotAnswer (fed slots s p d)
+    unfolding fed
+    open-outside p d f = rw (e, f)
+
+    pub open-fed : (p : Piece) (d : List ℕ) → pieceOk (p .start) (p .length) (length d) ≡ true → {a : SlotAnswer}
+        → a ≡ slotAnswer (reply slots s (update (take (p .start + p .length - p .start) (drop (p .start) d)))) → a ≡ slotAnswer (fed slots s p d)
+    unfolding fed reply piece
+    open-fed p d f {a} g =
+        let h : a ≡ slotAnswer (reply slots s (update (take (p .length) (drop (p .start) d)))) =
+        g ∙ ap (λ (n : ℕ). slotAnswer (reply slots s (update (take n (drop (p .start) d))))) (rest (p .start) (p .length)) in
+        rw (e, f) (rw e at h)
+
+    pub open-digest : {a : HashAnswer} → a ≡ state.finalized (s .state) → a ≡ hashAnswer (reply slots s digest .answer)
+    unfolding reply slotDigested
+    open-digest f = rw e (f ∙ ap (λ (h : Hash). record { number = state.finalized (s .state) .number; hash = h }) (record-of-digest (s .state)))
+
+    pub open-count : {a : CountAnswer} → a ≡ state.counted (s .state) → a ≡ countAnswer (reply slots s count .answer)
+    unfolding reply slotCounted
+    open-count f = rw e f
+
+    pub open-close : {t : Slot} → t ≡ closedSlot → record { number = accepted; slot = t } ≡ slotAnswer (reply slots s close)
+    unfolding reply
+    open-close f = rw (e, f)
+
+  -- a closed slot
+  module _ (e : s .«is_open» ≡ false) where
+    pub closed-opened : (p : Params) → inRange p ≡ true → {a : StateAnswer} → a ≡ state.opened p
+        → record { number = accepted; slot = record { «is_open» = true; state = a .state } } ≡ slotAnswer (reply slots s (opening p))
+    unfolding reply state.opened
+    closed-opened p good f = rw (e, f, good)
+
+    pub closed-updated : (d : List ℕ) → record { number = slot-closed; slot = s } ≡ slotAnswer (reply slots s (update d))
+    unfolding reply
+    closed-updated d = rw e
+
+    pub closed-fed : (p : Piece) (d : List ℕ) → record { number = slot-closed; slot = s } ≡ slotAnswer (fed slots s p d)
+    unfolding fed
+    closed-fed p d = rw e
+
+    pub closed-digest : {h : Hash} → h ≡ zeroHash → record { number = slot-closed; hash = h } ≡ hashAnswer (reply slots s digest .answer)
+    unfolding reply pad zeros
+    closed-digest f = rw (e, f)
+
+    pub closed-count : record { number = slot-closed; count = 0 } ≡ countAnswer (reply slots s count .answer)
+    unfolding reply
+    closed-count = rw e
+
+    pub closed-close : record { number = slot-closed; slot = s } ≡ slotAnswer (reply slots s close)
+    unfolding reply
+    closed-close = rw e

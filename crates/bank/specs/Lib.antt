@@ -1,0 +1,3 @@
+pub mod Rules
+pub mod Table
+pub mod Slots

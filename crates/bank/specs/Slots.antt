@@ -1,0 +1,79 @@
+-- The bank's slots: a record of a state, and what the state's own calls make of it; and the answers of the bank's functions, read off a result.
+-- Assumes nothing.
+use mathlib.Core.Bool.{Bool, true, false, cond}
+use mathlib.Core.List.{List, []}
+use Prim.Native.Nat.{ℕ}
+use lib.ListN.{replicate}
+use Rattle.blake2b.specs.Hash.{hashOf, digestOf}
+use Rattle.blake2b.specs.State.{stateInRange, zeroState, fresh}
+use Rattle.blake2b.specs.State as state
+use Rattle.blake2b.specs.declared.params.Params.{Params}
+use Rattle.blake2b.specs.declared.hash.HashAnswer.{HashAnswer}
+use Rattle.blake2b.specs.declared.hash.LengthAnswer.{LengthAnswer}
+use Rattle.blake2b.specs.declared.state.CountAnswer.{CountAnswer}
+use Rattle.bank.specs.Rules.{Answer, Reply, Result, Kind, Call, numbered, step}
+use Rattle.bank.specs.declared.slot.Slot.{Slot}
+use Rattle.bank.specs.declared.slot.SlotAnswer.{SlotAnswer}
+use Rattle.bank.specs.declared.bank.Bank.{Bank}
+use Rattle.bank.specs.declared.bank.BankAnswer.{BankAnswer}
+use Rattle.bank.specs.declared.bank.BatchAnswer.{BatchAnswer}
+
+abbrev pub closedSlot : Slot
+closedSlot = record { «is_open» = false; state = zeroState }
+
+unfoldable pub slotGood : Slot → Bool
+slotGood s = cond (s .«is_open») (stateInRange (s .state)) true
+
+unfoldable pub slotUpdated : Slot → List ℕ → Reply Slot
+slotUpdated s d =
+    record { answer = numbered (state.updated (s .state) d .number); slot = record { «is_open» = true; state = state.updated (s .state) d .state } }
+
+unfoldable pub slotDigested : Slot → Answer
+slotDigested s =
+    record { number = state.finalized (s .state) .number; index = 0; value = 0; bytes = digestOf (state.finalized (s .state) .hash) }
+
+unfoldable pub slotCounted : Slot → Answer
+slotCounted s = record { number = state.counted (s .state) .number; index = 0; value = state.counted (s .state) .count; bytes = [] }
+
+abbrev pub slots : Kind Slot
+slots = record {
+  closed = closedSlot;
+  isOpen = λ s. s .«is_open»;
+  good = slotGood;
+  opened = λ p. record { «is_open» = true; state = fresh p };
+  updated = slotUpdated;
+  digested = slotDigested;
+  counted = slotCounted;
+}
+
+-- document 01's numbers of slots and of records
+abbrev pub slot-limit : ℕ
+slot-limit = 16
+
+abbrev pub batch-limit : ℕ
+batch-limit = 16
+
+abbrev pub emptyBank : Bank
+emptyBank = record { slots = replicate slot-limit closedSlot }
+
+-- a call on the bank
+abbrev pub told : Bank → Call → Result Slot
+told b c = step slots slot-limit batch-limit (b .slots) c
+
+abbrev pub bankAnswer : Result Slot → BankAnswer
+bankAnswer r = record { number = r .answer .number; bank = record { slots = r .slots } }
+
+abbrev pub batchAnswer : Result Slot → BatchAnswer
+batchAnswer r = record { number = r .answer .number; index = r .answer .index; bank = record { slots = r .slots } }
+
+abbrev pub slotAnswer : Reply Slot → SlotAnswer
+slotAnswer r = record { number = r .answer .number; slot = r .slot }
+
+abbrev pub hashAnswer : Answer → HashAnswer
+hashAnswer a = record { number = a .number; hash = hashOf (a .bytes) }
+
+abbrev pub countAnswer : Answer → CountAnswer
+countAnswer a = record { number = a .number; count = a .value }
+
+abbrev pub lengthAnswer : Answer → LengthAnswer
+lengthAnswer a = record { number = a .number; length = a .value }

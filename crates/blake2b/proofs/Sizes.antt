@@ -1,0 +1,41 @@
+-- A state's digest has the length that was asked for.
+-- Assumes nothing.
+use mathlib.Core.Path.{_≡_, refl, sym, ap, _∙_}
+use mathlib.Core.Bool.{Bool, true, false}
+use mathlib.Core.List.{List}
+use Prim.Native.Nat.{ℕ, _*_, _≤_}
+use native.Mathlib.Omega.{arith}
+use lib.ListN.{length, take, length-map}
+use lib.Seq.{length-take-le}
+use Rattle.definitions.specs.Family.{BLAKE2b}
+use Rattle.definitions.specs.Compress.{F}
+use Rattle.definitions.specs.Hash.{compress, stateBytes}
+use Rattle.laws.specs.Chain.{through, ended}
+use Rattle.laws.specs.Blocks.{onBytes, throughBlocks}
+use Rattle.laws.proofs.Bytes.{length-flat}
+use Rattle.numbers.specs.Numbers.{accepted, bad-record}
+use Rattle.blake2b.specs.Hash.{isDigestLength, digestOf}
+use Rattle.blake2b.specs.State.{pending, stateInRange, closedDigest, finalized}
+use Rattle.blake2b.specs.declared.state.State.{State}
+use Rattle.blake2b.proofs.Digests.{digest-of-hash, digest-length-is}
+use Rattle.blake2b.proofs.Ranges.{in-range}
+
+-- a run of blocks ends in a call of F, which answers eight words
+length-through : (w : List ℕ) (t : ℕ) (last node : Bool) (d : List ℕ) → length (stateBytes BLAKE2b (throughBlocks BLAKE2b 128 w t last node d)) ≡ 64
+unfolding stateBytes through ended onBytes compress F
+length-through w t last node d = length-flat 8 (throughBlocks BLAKE2b 128 w t last node d)
+
+pub length-closed-digest : (s : State) → s .«hash_length» ≤ 64 → length (closedDigest s) ≡ s .«hash_length»
+length-closed-digest s h =
+    let l = length-through (s .words) (s .count) true (s .«last_node») (pending s) in
+    length-take-le (s .«hash_length») (stateBytes BLAKE2b (throughBlocks BLAKE2b 128 (s .words) (s .count) true (s .«last_node») (pending s))) (omega arith)
+
+pub digest-sized : (s : State) → finalized s .number ≡ accepted → isDigestLength (length (digestOf (finalized s .hash))) ≡ true
+unfolding finalized
+digest-sized s e = split (stateInRange s) refl
+  where
+    split : (b : Bool) → stateInRange s ≡ b → isDigestLength (length (digestOf (finalized s .hash))) ≡ true
+    split true f =
+        let r = in-range (s .«hash_length») (s .buflen) (s .count) (s .«is_keyed») f in
+        rw f (ap isDigestLength (ap length (digest-of-hash (closedDigest s)) ∙ length-closed-digest s (r .most)) ∙ digest-length-is (s .«hash_length») (r .least) (r .most))
+    split false f = let z : bad-record ≡ accepted = rw f at e in absurd (omega arith)

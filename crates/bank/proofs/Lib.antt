@@ -1,4 +1,6 @@
 pub mod Batches
+pub mod Follows
+pub mod History
 pub mod Replies
 pub mod Steps
 pub mod Written

@@ -4,13 +4,15 @@ use mathlib.Core.Path.{_≡_, refl, sym, ap, _∙_}
 use mathlib.Core.Bool.{Bool, true, false, cond, _&&_, and-false}
 use mathlib.Core.List.{List, [], _∷_, map}
 use Prim.Native.Nat.{ℕ, zero, suc}
+use borrow.Author.Tests.{eqb-true}
 use lib.Dec.{ltb, leb, eqb}
 use lib.ListN.{length, getD, set, take, List·getD-map}
 use Rattle.numbers.specs.Numbers.{accepted, pieceOk}
 use Rattle.blake2b.specs.Params.{inRange, Clean}
 use Rattle.blake2b.specs.declared.params.Params.{Params}
-use Rattle.bank.specs.Rules.{Ask, opening, update, digest, digest-to, count, close, Call, on, update-many, Answer, Reply, Result, Kind, written, piece, every, goodAsk, reply, fed, at, fault, batch, step, answers, after}
+use Rattle.bank.specs.Rules.{Ask, opening, update, digest, digest-to, count, close, Call, on, update-many, Answer, Reply, Result, Kind, written, placeFault, piece, every, goodAsk, reply, fed, at, fault, batch, step, answers, after}
 use Rattle.bank.specs.declared.piece.Piece.{Piece}
+use Rattle.bank.proofs.Replies.{placed}
 
 abbrev pub mapReply : {X Y : Type 0} → (X → Y) → Reply X → Reply Y
 mapReply f r = record { answer = r .answer; slot = f (r .slot) }
@@ -103,15 +105,17 @@ module _ {X Y : Type 0} (a : Kind X) (b : Kind Y) (f : X → Y) (Valid : X → T
     fed-follows : (p : Piece) (d : List ℕ) → fed b (f x) p d ≡ mapReply f (fed a x p d)
     unfolding fed
     fed-follows p d =
+        let inside : Bool = pieceOk (p .start) (p .length) (length d) in
         rw (F .isOpen x)
-        (both (mapReply f) (a .isOpen x)
-        (λ e. both (mapReply f) (pieceOk (p .start) (p .length) (length d)) (λ h. F .updated x valid e (piece p d)) (λ h. refl)) (λ e. refl))
+        (both (mapReply f) (eqb (placeFault (a .isOpen x) inside) accepted)
+        (λ e. F .updated x valid (placed (a .isOpen x) inside (eqb-true (placeFault (a .isOpen x) inside) accepted e) .0) (piece p d)) (λ e. refl))
 
     fed-valid : (p : Piece) (d : List ℕ) → Kept (fed a x p d)
     unfolding fed
     fed-valid p d =
-        either Kept (a .isOpen x) _ _
-        (λ e. either Kept (pieceOk (p .start) (p .length) (length d)) _ _ (λ h. F .updated-valid x valid e (piece p d)) (λ h. valid)) (λ e. valid)
+        let inside : Bool = pieceOk (p .start) (p .length) (length d) in
+        either Kept (eqb (placeFault (a .isOpen x) inside) accepted) _ _
+        (λ e. F .updated-valid x valid (placed (a .isOpen x) inside (eqb-true (placeFault (a .isOpen x) inside) accepted e) .0) (piece p d)) (λ e. valid)
 
   -- all slots
   at-follows : (xs : List X) (k : ℕ) → at b (map f xs) k ≡ f (at a xs k)

@@ -88,9 +88,9 @@ module _ (r : Row) (reached : Reached r) where
   row-stays d =
       either (λ (s : Reply (Option Row)). Valid (s .slot)) (leb (length (keyed BLAKE2b (keyOf p) (r .bytes)) + length d) limit) _ _
       (λ e.
-        let l : length (keyed BLAKE2b (keyOf p) (r .bytes)) ≡ length (front p) + length (r .bytes) = ap length (sym (front-keyed p (reached .clean) (r .bytes))) ∙ length-append (front p) (r .bytes) in
-        let m = length-append (r .bytes) d in
-        record { clean = reached .clean; good = reached .good; within = omega (arith, leb-true (length (keyed BLAKE2b (keyOf p) (r .bytes)) + length d) limit e) })
+      let l : length (keyed BLAKE2b (keyOf p) (r .bytes)) ≡ length (front p) + length (r .bytes) = ap length (sym (front-keyed p (reached .clean) (r .bytes))) ∙ length-append (front p) (r .bytes) in
+      let m = length-append (r .bytes) d in
+      record { clean = reached .clean; good = reached .good; within = omega (arith, leb-true (length (keyed BLAKE2b (keyOf p) (r .bytes)) + length d) limit e) })
       (λ e. reached)
 
   row-digested : slotDigested (slotOf (some r)) ≡ rowDigested r

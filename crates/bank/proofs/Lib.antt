@@ -1,6 +1,10 @@
+pub mod Alone
 pub mod Batches
 pub mod Follows
+pub mod Frames
 pub mod History
+pub mod Isolation
 pub mod Replies
 pub mod Steps
+pub mod Unique
 pub mod Written

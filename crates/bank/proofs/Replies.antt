@@ -5,7 +5,7 @@ use mathlib.Core.Bool.{Bool, true, false, not, cond}
 use mathlib.Core.List.{List, []}
 use Prim.Native.Nat.{ℕ, _+_, _-_}
 use native.Mathlib.Omega.{arith}
-use borrow.Author.Tests.{not-true, not-false}
+use borrow.Author.Tests.{ne-eqb}
 use lib.ListN.{length, take, drop}
 use Rattle.definitions.specs.Words.{pad}
 use Rattle.laws.specs.Chain.{zeros}
@@ -21,7 +21,7 @@ use Rattle.blake2b.specs.declared.state.State.{State}
 use Rattle.blake2b.specs.declared.state.StateAnswer.{StateAnswer}
 use Rattle.blake2b.specs.declared.state.CountAnswer.{CountAnswer}
 use Rattle.blake2b.proofs.Digests.{digest-of-hash}
-use Rattle.bank.specs.Rules.{reply, fed, piece, opening, update, digest, count, close}
+use Rattle.bank.specs.Rules.{placeFault, reply, fed, piece, opening, update, digest, count, close}
 use Rattle.bank.specs.Slots.{closedSlot, slotGood, slotUpdated, slotDigested, slotCounted, slots, slotAnswer, hashAnswer, countAnswer}
 use Rattle.bank.specs.declared.piece.Piece.{Piece}
 use Rattle.bank.specs.declared.slot.Slot.{Slot}
@@ -38,9 +38,6 @@ record-of-digest s = split (stateInRange s) refl
     split : (b : Bool) → stateInRange s ≡ b → state.finalized s .hash ≡ hashOf (digestOf (state.finalized s .hash))
     split true e = rw e (whole (closedDigest s))
     split false e = rw e (whole [])
-
-rest : (a b : ℕ) → a + b - a ≡ b
-rest a b = omega arith
 
 module _ (s : Slot) where
   pub range-open : s .«is_open» ≡ true → stateInRange (s .state) ≡ slotGood s
@@ -61,19 +58,6 @@ module _ (s : Slot) where
         → record { number = a .number; slot = record { «is_open» = true; state = a .state } } ≡ slotAnswer (reply slots s (update d))
     unfolding reply slotUpdated
     open-updated d f = rw (e, f)
-
-    pub open-outside : (p : Piece) (d : List ℕ) → pieceOk (p .start) (p .length) (length d) ≡ false
-        → record { number = piece-outside; slot = s } ≡ slotAnswer (fed slots s p d)
-    unfolding fed
-    open-outside p d f = rw (e, f)
-
-    pub open-fed : (p : Piece) (d : List ℕ) → pieceOk (p .start) (p .length) (length d) ≡ true → {a : SlotAnswer}
-        → a ≡ slotAnswer (reply slots s (update (take (p .start + p .length - p .start) (drop (p .start) d)))) → a ≡ slotAnswer (fed slots s p d)
-    unfolding fed reply piece
-    open-fed p d f {a} g =
-        let h : a ≡ slotAnswer (reply slots s (update (take (p .length) (drop (p .start) d)))) =
-        g ∙ ap (λ (n : ℕ). slotAnswer (reply slots s (update (take n (drop (p .start) d))))) (rest (p .start) (p .length)) in
-        rw (e, f) (rw e at h)
 
     pub open-digest : {a : HashAnswer} → a ≡ state.finalized (s .state) → a ≡ hashAnswer (reply slots s digest .answer)
     unfolding reply slotDigested
@@ -98,10 +82,6 @@ module _ (s : Slot) where
     unfolding reply
     closed-updated d = rw e
 
-    pub closed-fed : (p : Piece) (d : List ℕ) → record { number = slot-closed; slot = s } ≡ slotAnswer (fed slots s p d)
-    unfolding fed
-    closed-fed p d = rw e
-
     pub closed-digest : {h : Hash} → h ≡ zeroHash → record { number = slot-closed; hash = h } ≡ hashAnswer (reply slots s digest .answer)
     unfolding reply pad zeros
     closed-digest f = rw (e, f)
@@ -113,3 +93,42 @@ module _ (s : Slot) where
     pub closed-close : record { number = slot-closed; slot = s } ≡ slotAnswer (reply slots s close)
     unfolding reply
     closed-close = rw e
+
+-- a record of a batch
+module _ (is-open inside : Bool) where
+  pub closed-place : is-open ≡ false → slot-closed ≡ placeFault is-open inside
+  unfolding placeFault
+  closed-place e = rw e
+
+  pub outside-place : is-open ≡ true → inside ≡ false → piece-outside ≡ placeFault is-open inside
+  unfolding placeFault
+  outside-place e f = rw (e, f)
+
+  pub good-place : is-open ≡ true → inside ≡ true → accepted ≡ placeFault is-open inside
+  unfolding placeFault
+  good-place e f = rw (e, f)
+
+pub placed : (is-open inside : Bool) → placeFault is-open inside ≡ accepted → (is-open ≡ true) × (inside ≡ true)
+unfolding placeFault
+placed true true e = (refl, refl)
+placed true false e = absurd (omega (arith, e))
+placed false inside e = absurd (omega (arith, e))
+
+rest : (a b : ℕ) → a + b - a ≡ b
+rest a b = omega arith
+
+module _ (s : Slot) (p : Piece) (d : List ℕ) {inside : Bool} {f : ℕ} (i : inside ≡ pieceOk (p .start) (p .length) (length d)) (e : f ≡ placeFault (s .«is_open») inside) where
+  pub fed-refused : (f ≡ accepted → ⊥) → record { number = f; slot = s } ≡ slotAnswer (fed slots s p d)
+  unfolding fed
+  fed-refused h = rw (← i, ← e, ne-eqb f accepted h)
+
+  pub fed-inside : f ≡ accepted → pieceOk (p .start) (p .length) (length d) ≡ true
+  fed-inside h = sym i ∙ placed (s .«is_open») inside (sym e ∙ h) .1
+
+  fed-is : f ≡ accepted → reply slots s (update (piece p d)) ≡ fed slots s p d
+  unfolding fed reply placeFault
+  fed-is h = rw (placed (s .«is_open») inside (sym e ∙ h) .0, fed-inside h)
+
+  pub fed-updated : f ≡ accepted → {a : SlotAnswer} → a ≡ slotAnswer (reply slots s (update (take (p .start + p .length - p .start) (drop (p .start) d)))) → a ≡ slotAnswer (fed slots s p d)
+  unfolding piece
+  fed-updated h g = g ∙ ap (λ (n : ℕ). slotAnswer (reply slots s (update (take n (drop (p .start) d))))) (rest (p .start) (p .length)) ∙ ap slotAnswer (fed-is h)

@@ -1,3 +1,4 @@
 pub mod Rules
 pub mod Table
 pub mod Slots
+pub mod Apart

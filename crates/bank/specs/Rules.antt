@@ -78,6 +78,10 @@ pub record Kind (X : Type 0) : Type 0 where
   pub digested : X → Answer
   pub counted : X → Answer
 
+-- a record at a slot that is open or not, whose piece lies inside the data or not: 8, then 9
+unfoldable pub placeFault : Bool → Bool → ℕ
+placeFault is-open inside = cond is-open (cond inside accepted piece-outside) slot-closed
+
 -- the bytes of a record
 unfoldable pub piece : Piece → List ℕ → List ℕ
 piece p d = take (p .length) (drop (p .start) d)
@@ -109,9 +113,8 @@ module _ {X : Type 0} (kind : Kind X) where
   -- one record of a batch, at its slot: 8, 9, then 6
   unfoldable pub fed : X → Piece → List ℕ → Reply X
   fed x p d =
-      cond (kind .isOpen x)
-      (cond (pieceOk (p .start) (p .length) (length d)) (kind .updated x (piece p d)) (record { answer = numbered piece-outside; slot = x }))
-      (record { answer = numbered slot-closed; slot = x })
+      let f : ℕ = placeFault (kind .isOpen x) (pieceOk (p .start) (p .length) (length d)) in
+      cond (eqb f accepted) (kind .updated x (piece p d)) (record { answer = numbered f; slot = x })
 
   -- the slot k
   abbrev pub at : List X → ℕ → X

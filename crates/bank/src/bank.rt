@@ -51,7 +51,7 @@ impl Bank {
     }
 
     // Whether every open slot keeps its stated ranges.
-    pub fn in_range(self) -> bool
+    fn in_range(self) -> bool
         ensures { λ r. ⌜ r ≡ every slotGood (self .slots) ⌝ }
     {
         let slots = self.slots;

@@ -1,22 +1,21 @@
 // One slot: a state, and whether the slot is open. A closed slot is zeros.
 // The bank has checked 14 and 7 before a slot is asked.
 use crate::piece::Piece;
+use crate::piece::place_fault;
 use blake2b::CountAnswer;
 use blake2b::Hash;
 use blake2b::HashAnswer;
-use blake2b::LengthAnswer;
 use blake2b::Params;
 use blake2b::State;
 use numbers::ACCEPTED;
 use numbers::CLOSED;
 use numbers::OPEN;
-use numbers::PIECE;
 use numbers::piece_ok;
 ghost use mathlib.Core.Path.{_≡_};
 ghost use mathlib.Core.Bool.{true};
 ghost use Rattle.blake2b.specs.Params.{inRange};
-ghost use Rattle.bank.specs.Rules.{reply, fed, opening, update, digest, digest-to, count, close};
-ghost use Rattle.bank.specs.Slots.{closedSlot, slotGood, slots, slotAnswer, hashAnswer, countAnswer, lengthAnswer};
+ghost use Rattle.bank.specs.Rules.{reply, fed, opening, update, digest, count, close};
+ghost use Rattle.bank.specs.Slots.{closedSlot, slotGood, slots, slotAnswer, hashAnswer, countAnswer};
 
 pub struct Slot {
     pub(crate) is_open: bool,
@@ -95,19 +94,11 @@ impl Slot {
     pub(crate) fn feed(self, piece: Piece, data: &[u8]) -> SlotAnswer
         ensures { λ r. ⌜ r ≡ slotAnswer (fed slots self piece (now («data» .entry))) ⌝ }
     {
-        if !self.is_open {
-            return SlotAnswer {
-                number: CLOSED,
-                slot: self,
-            };
-        }
         let start = piece.start;
         let length = piece.length;
-        if !piece_ok(start, length, data.len()) {
-            return SlotAnswer {
-                number: PIECE,
-                slot: self,
-            };
+        let number = place_fault(self.is_open, piece_ok(start, length, data.len()));
+        if number != ACCEPTED {
+            return SlotAnswer { number, slot: self };
         }
         let end = start + length;
         self.update(&data[start..end])

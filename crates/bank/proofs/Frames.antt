@@ -1,0 +1,111 @@
+-- What a call leaves as it was: everything where it is refused, and every slot that it does not name.
+-- Over any kind of slots, any number of them and any limit of records. Assumes nothing.
+use mathlib.Core.Path.{_≡_, refl, sym, ap, _∙_}
+use mathlib.Core.Bool.{Bool, true, false, _||_, true≢false}
+use mathlib.Core.List.{List, [], _∷_}
+use Prim.Native.Nat.{ℕ, zero, suc}
+use borrow.Author.Tests.{eqb-true, eqb-false}
+use lib.Dec.{ltb, leb, eqb}
+use lib.ListN.{length, getD, set, take, length-set}
+use lib.Seq.{getD-set-other}
+use Rattle.numbers.specs.Numbers.{accepted, pieceOk}
+use Rattle.bank.specs.Rules.{Ask, opening, update, digest, digest-to, count, close, Call, on, update-many, Reply, Result, Kind, every, goodAsk, reply, fed, at, fault, batch, step, after}
+use Rattle.bank.specs.Apart.{among, names, Spared}
+use Rattle.bank.specs.declared.piece.Piece.{Piece}
+use Rattle.bank.proofs.Follows.{either}
+
+set-same : {X : Type 0} (xs : List X) (k : ℕ) (d : X) → set xs k (getD xs k d) ≡ xs
+set-same [] k d = refl
+set-same (x ∷ xs) zero d = refl
+set-same (x ∷ xs) (suc k) d = ap (λ (ys : List _). x ∷ ys) (set-same xs k d)
+
+module _ {X : Type 0} (kind : Kind X) where
+  -- an open slot that refuses an update is as it was
+  abbrev pub Steady : Type 0
+  Steady = (x : X) (d : List ℕ) → kind .isOpen x ≡ true → (kind .updated x d .answer .number ≡ accepted → ⊥) → kind .updated x d .slot ≡ x
+
+  -- a refused reply leaves the slot
+  abbrev Left : X → Reply X → Type 0
+  Left x r = (r .answer .number ≡ accepted → ⊥) → r .slot ≡ x
+
+  reply-left : Steady → (x : X) (ask : Ask) → Left x (reply kind x ask)
+  unfolding reply
+  reply-left steady x (opening p) = either (Left x) (kind .isOpen x) _ _ (λ e h. refl) (λ e h. absurd (h refl))
+  reply-left steady x (update d) = either (Left x) (kind .isOpen x) _ _ (λ e h. steady x d e h) (λ e h. refl)
+  reply-left steady x digest = λ h. refl
+  reply-left steady x (digest-to out) = λ h. refl
+  reply-left steady x count = λ h. refl
+  reply-left steady x close = either (Left x) (kind .isOpen x) _ _ (λ e h. absurd (h refl)) (λ e h. refl)
+
+  module _ (n : ℕ) where
+    -- what a result keeps of the slots: all where refused; the slot k
+    abbrev AllLeft : List X → Result X → Type 0
+    AllLeft xs r = (r .answer .number ≡ accepted → ⊥) → r .slots ≡ xs
+
+    abbrev AtLeft : ℕ → X → Result X → Type 0
+    AtLeft k x r = at kind (r .slots) k ≡ x
+
+    batch-left : (xs ys : List X) (i : ℕ) (ps : List Piece) (d : List ℕ) → AllLeft xs (batch kind n xs ys i ps d)
+    unfolding batch
+    batch-left xs ys i [] d = λ h. absurd (h refl)
+    batch-left xs ys i (p ∷ ps) d =
+        let r : Reply X = fed kind (at kind ys (p .slot)) p d in
+        let rest = batch-left xs (set ys (p .slot) (r .slot)) (suc i) ps d in
+        either (AllLeft xs) (ltb (p .slot) n) _ _ (λ e. either (AllLeft xs) (eqb (r .answer .number) accepted) _ _ (λ h. rest) (λ h z. refl)) (λ e z. refl)
+
+    -- a record for another slot, and those behind it
+    not-first : (p : Piece) (ps : List Piece) (k : ℕ) → among k (p ∷ ps) ≡ false → (eqb (p .slot) k ≡ false) × (among k ps ≡ false)
+    unfolding among
+    not-first p ps k e = split (eqb (p .slot) k) e refl
+      where
+        split : (q : Bool) → q || among k ps ≡ false → eqb (p .slot) k ≡ q → (eqb (p .slot) k ≡ false) × (among k ps ≡ false)
+        split true f g = absurd (true≢false f)
+        split false f g = (g, f)
+
+    pub other-slot : (xs : List X) (j k : ℕ) (v : X) → eqb j k ≡ false → at kind (set xs j v) k ≡ at kind xs k
+    other-slot xs j k v e = getD-set-other xs j k v (kind .closed) (λ h. eqb-false j k e (sym h))
+
+    batch-other : (xs ys : List X) (i : ℕ) (ps : List Piece) (d : List ℕ) (k : ℕ) → among k ps ≡ false → at kind xs k ≡ at kind ys k
+        → AtLeft k (at kind ys k) (batch kind n xs ys i ps d)
+    unfolding batch
+    batch-other xs ys i [] d k e f = refl
+    batch-other xs ys i (p ∷ ps) d k e f =
+        let r : Reply X = fed kind (at kind ys (p .slot)) p d in
+        let o = other-slot ys (p .slot) k (r .slot) (not-first p ps k e .0) in
+        let rest = batch-other xs (set ys (p .slot) (r .slot)) (suc i) ps d k (not-first p ps k e .1) (f ∙ sym o) in
+        either (AtLeft k (at kind ys k)) (ltb (p .slot) n) _ _
+        (λ g. either (AtLeft k (at kind ys k)) (eqb (r .answer .number) accepted) _ _ (λ h. rest ∙ o) (λ h. f)) (λ g. f)
+
+    module _ (most : ℕ) where
+      -- a refused call leaves every slot
+      pub refused-leaves : Steady → (xs : List X) (c : Call) → AllLeft xs (step kind n most xs c)
+      unfolding step
+      refused-leaves steady xs (on k ask) =
+          either (AllLeft xs) (eqb (fault kind n xs (goodAsk ask) k) accepted) _ _
+          (λ e h. ap (set xs k) (reply-left steady (at kind xs k) ask h) ∙ set-same xs k (kind .closed)) (λ e h. refl)
+      refused-leaves steady xs (update-many ps used d) =
+          either (AllLeft xs) (every (kind .good) xs) _ _ (λ e. either (AllLeft xs) (leb used most) _ _ (λ h. batch-left xs xs 0 (take used ps) d) (λ h z. refl)) (λ e z. refl)
+
+      -- any call leaves a slot that it does not name
+      pub other-kept : (xs : List X) (c : Call) (k : ℕ) → names k c ≡ false → AtLeft k (at kind xs k) (step kind n most xs c)
+      unfolding step
+      other-kept xs (on j ask) k e =
+          either (AtLeft k (at kind xs k)) (eqb (fault kind n xs (goodAsk ask) j) accepted) _ _ (λ h. other-slot xs j k (reply kind (at kind xs j) ask .slot) e) (λ h. refl)
+      other-kept xs (update-many ps used d) k e =
+          either (AtLeft k (at kind xs k)) (every (kind .good) xs) _ _
+          (λ g. either (AtLeft k (at kind xs k)) (leb used most) _ _ (λ h. batch-other xs xs 0 (take used ps) d k e refl) (λ h. refl)) (λ g. refl)
+
+      spared-step : Steady → (xs : List X) (c : Call) (k : ℕ) → (step kind n most xs c .answer .number ≡ accepted → names k c ≡ false)
+          → at kind (step kind n most xs c .slots) k ≡ at kind xs k
+      spared-step steady xs c k h = split (eqb (step kind n most xs c .answer .number) accepted) refl
+        where
+          split : (q : Bool) → eqb (step kind n most xs c .answer .number) accepted ≡ q → at kind (step kind n most xs c .slots) k ≡ at kind xs k
+          split true e = other-kept xs c k (h (eqb-true (step kind n most xs c .answer .number) accepted e))
+          split false e =
+              ap (λ (ys : List X). at kind ys k) (refused-leaves steady xs c (eqb-false (step kind n most xs c .answer .number) accepted e))
+
+      -- a slot that no accepted call names keeps what it holds, through a whole history
+      pub unnamed-kept : Steady → (xs : List X) (cs : List Call) (k : ℕ) → Spared kind n most k xs cs → at kind (after kind n most xs cs) k ≡ at kind xs k
+      unfolding after
+      unnamed-kept steady xs [] k h = refl
+      unnamed-kept steady xs (c ∷ cs) k h = unnamed-kept steady (step kind n most xs c .slots) cs k (h .1) ∙ spared-step steady xs c k (h .0)

@@ -22,7 +22,7 @@ use Rattle.blake2b.specs.declared.state.StateAnswer.{StateAnswer}
 use Rattle.blake2b.specs.declared.state.CountAnswer.{CountAnswer}
 use Rattle.blake2b.proofs.Digests.{digest-of-hash}
 use Rattle.bank.specs.Rules.{placeFault, reply, fed, piece, opening, update, digest, count, close}
-use Rattle.bank.specs.Slots.{closedSlot, slotGood, slotUpdated, slotDigested, slotCounted, slots, slotAnswer, hashAnswer, countAnswer}
+use Rattle.bank.specs.Slots.{slotGood, slotUpdated, slotDigested, slotCounted, slots, slotAnswer, hashAnswer, countAnswer}
 use Rattle.bank.specs.declared.piece.Piece.{Piece}
 use Rattle.bank.specs.declared.slot.Slot.{Slot}
 use Rattle.bank.specs.declared.slot.SlotAnswer.{SlotAnswer}
@@ -67,7 +67,7 @@ module _ (s : Slot) where
     unfolding reply slotCounted
     open-count f = rw e f
 
-    pub open-close : {t : Slot} → t ≡ closedSlot → record { number = accepted; slot = t } ≡ slotAnswer (reply slots s close)
+    pub open-close : {z : State} → z ≡ state.zeroState → record { number = accepted; slot = record { «is_open» = false; state = z } } ≡ slotAnswer (reply slots s close)
     unfolding reply
     open-close f = rw (e, f)
 

@@ -35,6 +35,17 @@ pub struct BatchAnswer {
     pub bank: Bank,
 }
 
+// A refused batch: the bank is as it was.
+fn refused(number: u8, index: usize, bank: Bank) -> BatchAnswer
+    ensures { λ r. ⌜ r ≡ record { number = number; index = index; bank = bank } ⌝ }
+{
+    BatchAnswer {
+        number,
+        index,
+        bank,
+    }
+}
+
 impl Bank {
     pub const SLOTS: usize = 16;
 
@@ -136,8 +147,7 @@ impl Bank {
                 hash: Hash::zero(),
             };
         }
-        let s = self.slot(slot);
-        s.digest()
+        self.slot(slot).digest()
     }
 
     // The digest's bytes, to the front of an output.
@@ -163,8 +173,7 @@ impl Bank {
         if number != ACCEPTED {
             return CountAnswer { number, count: 0 };
         }
-        let s = self.slot(slot);
-        s.count()
+        self.slot(slot).count()
     }
 
     pub fn close(self, slot: usize) -> BankAnswer
@@ -183,39 +192,24 @@ impl Bank {
         ensures { λ r. ⌜ r ≡ batchAnswer (told self (update-many pieces used (now («data» .entry)))) ⌝ }
     {
         if !self.in_range() {
-            return BatchAnswer {
-                number: RECORD,
-                index: 0,
-                bank: self,
-            };
+            return refused(RECORD, 0, self);
         }
         if used > Bank::BATCH {
-            return BatchAnswer {
-                number: BATCH,
-                index: 0,
-                bank: self,
-            };
+            return refused(BATCH, 0, self);
         }
-        let mut slots = self.slots;
+        let before = self.slots;
+        let mut slots = before;
         let mut i: usize = 0;
         while i < used {
             let piece = pieces[i];
             let k = piece.slot;
             if k >= Bank::SLOTS {
-                return BatchAnswer {
-                    number: SLOT,
-                    index: i,
-                    bank: self,
-                };
+                return refused(SLOT, i, Bank { slots: before });
             }
             let s = slots[k];
             let done = s.feed(piece, data);
             if done.number != ACCEPTED {
-                return BatchAnswer {
-                    number: done.number,
-                    index: i,
-                    bank: self,
-                };
+                return refused(done.number, i, Bank { slots: before });
             }
             let next = done.slot;
             slots[k] = next;

@@ -139,9 +139,13 @@ impl Slot {
                 slot: self,
             };
         }
+        let empty = State::zero();
+        let mut s = self;
+        s.is_open = false;
+        s.state = empty;
         SlotAnswer {
             number: ACCEPTED,
-            slot: Slot::closed(),
+            slot: s,
         }
     }
 }

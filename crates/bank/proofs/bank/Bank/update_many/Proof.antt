@@ -17,12 +17,12 @@ use Rattle.bank.proofs.bank.Bank.update_many.Statement.{statement}
 use Rattle.bank.proofs.bank.Bank.update_many.Tie as tie
 
 abbrev Inv-loop : tie.InvT-loop
-Inv-loop self used «data» pieces slots₀ i₀ slots′ i =
+Inv-loop used «data» pieces before slots₀ i₀ slots′ i =
     (i ≤ used) × (used ≤ 16) × (length slots′ ≡ 16)
-    × (batchAnswer (batch slots slot-limit (self .slots) slots′ i (slice i used pieces) «data») ≡ batchAnswer (told self (update-many pieces used «data»)))
+    × (batchAnswer (batch slots slot-limit before slots′ i (slice i used pieces) «data») ≡ batchAnswer (told (record { slots = before }) (update-many pieces used «data»)))
 
 abbrev μ-loop : tie.MeasureT-loop
-μ-loop self used «data» pieces slots₀ i₀ slots′ i = used - i
+μ-loop used «data» pieces before slots₀ i₀ slots′ i = used - i
 
 sized : (c : tie.Start Inv-loop μ-loop) → length (c .args .self .slots) ≡ 16
 sized c = unmapped (slot-type.the-type .to) (c .args .self .slots) 16 (c .good .0 .1 .1 .0 .1 .0 .1)
@@ -35,10 +35,12 @@ abbrev begun : tie.At-loop Inv-loop μ-loop → tie.Start Inv-loop μ-loop
 begun l = l .before .before .before .before .before .before
 
 returns : tie.Need-returns Inv-loop μ-loop
-returns c = batch-bad _ _ _ _ (c .before .in-range .ensures) (c .if1 .taken)
+returns c = c .refused .ensures ∙ batch-bad _ _ _ _ (c .before .before .in-range .ensures) (c .before .if1 .taken)
 
 returns-2 : tie.Need-returns-2 Inv-loop μ-loop
-returns-2 c = batch-too-long _ _ _ _ (c .before .before .in-range .ensures) (c .before .if1 .left) (c .if2 .taken)
+returns-2 c =
+    let e = c .before in
+    c .refused2 .ensures ∙ batch-too-long _ _ _ _ (e .before .before .in-range .ensures) (e .before .if1 .left) (e .if2 .taken)
 
 loop-holds : tie.Need-loop-holds Inv-loop μ-loop
 loop-holds c =
@@ -48,18 +50,19 @@ loop-holds c =
 
 returns-3 : tie.Need-returns-3 Inv-loop μ-loop
 returns-3 c =
-    let t = c .before .before in
+    let t = c .before .before .before in
     let l = t .before in
     let fits : begun l .args .used ≤ length (begun l .args .t2) = rw (many (begun l)) (l .loop .inv .1) in
-    batch-slot-number _ _ (begun l .args .t2) (l .loop .i) (begun l .args .used) _ _ (t .loop-test .taken) fits (c .if3 .taken) ∙ l .loop .inv .3
+    c .refused3 .ensures ∙ batch-slot-number _ _ (begun l .args .t2) (l .loop .i) (begun l .args .used) _ _ (t .loop-test .taken) fits (c .before .if3 .taken) ∙ l .loop .inv .3
 
 returns-4 : tie.Need-returns-4 Inv-loop μ-loop
 returns-4 c =
-    let k = c .before .before .before .before in
+    let f = c .before .before .before in
+    let k = f .before .before in
     let t = k .before .before in
     let l = t .before in
     let fits : begun l .args .used ≤ length (begun l .args .t2) = rw (many (begun l)) (l .loop .inv .1) in
-    batch-stops _ _ (begun l .args .t2) (l .loop .i) (begun l .args .used) _ _ (t .loop-test .taken) fits (k .if3 .left) (l .loop .inv .2) _ (c .before .before .feed .ensures) (c .if4 .taken)
+    c .refused4 .ensures ∙ batch-stops _ _ (begun l .args .t2) (l .loop .i) (begun l .args .used) _ _ (t .loop-test .taken) fits (k .if3 .left) (l .loop .inv .2) _ (f .feed .ensures) (c .before .if4 .taken)
     ∙ l .loop .inv .3
 
 loop-again : tie.Need-loop-again Inv-loop μ-loop
@@ -79,4 +82,4 @@ returns-5 c =
     batch-ends _ _ (begun l .args .t2) (l .loop .i) (begun l .args .used) _ (l .loop .inv .0) (c .loop-test .left) ∙ l .loop .inv .3
 
 pub update-many-spec : {M : Type 1} → statement M
-update-many-spec = tie.close (tie.spec Inv-loop μ-loop (λ c κs. search needs) returns returns-2 loop-holds (λ c. search needs) (λ c. search needs) returns-3 (λ c. search needs) (λ c. search needs) (λ c κs. search needs) returns-4 (λ c. search needs) (λ c. search needs) (λ c. search needs) (λ c. search needs) loop-again returns-5)
+update-many-spec = tie.close (tie.spec Inv-loop μ-loop (λ c κs. search needs) (λ c κs. search needs) returns (λ c κs. search needs) returns-2 loop-holds (λ c. search needs) (λ c. search needs) (λ c κs. search needs) returns-3 (λ c. search needs) (λ c. search needs) (λ c κs. search needs) (λ c κs. search needs) returns-4 (λ c. search needs) (λ c. search needs) (λ c. search needs) (λ c. search needs) loop-again returns-5)

@@ -1,0 +1,40 @@
+-- `many::job::HashManyJob::refusal` meets its contract.
+-- Assumes nothing.
+use Rattle.many.proofs.Jobs.{refusal-bad, refusal-finished, refusal-inside, refusal-outside}
+use borrow.Author.Needs.{needs}
+use Rattle.many.proofs.job.HashManyJob.refusal.Statement.{statement}
+use Rattle.many.proofs.job.HashManyJob.refusal.Tie as tie
+
+returns : tie.Need-returns
+returns c =
+    let r = c .before in
+    let a = r .before .args in
+    refusal-bad (a .data-length) (a .self) (r .in-range .ensures) (c .if1 .taken)
+
+returns-2 : tie.Need-returns-2
+returns-2 c =
+    let i = c .before in
+    let r = i .before in
+    let a = r .before .args in
+    refusal-finished (a .data-length) (a .self) (r .in-range .ensures) (i .if1 .left) (c .if2 .taken)
+
+returns-3 : tie.Need-returns-3
+returns-3 c =
+    let q = c .before in
+    let f = q .before in
+    let i = f .before in
+    let r = i .before in
+    let a = r .before .args in
+    refusal-inside (a .data-length) (a .self) (r .in-range .ensures) (i .if1 .left) (f .if2 .left) (q .piece-ok .ensures) (c .if3 .taken)
+
+returns-4 : tie.Need-returns-4
+returns-4 c =
+    let q = c .before in
+    let f = q .before in
+    let i = f .before in
+    let r = i .before in
+    let a = r .before .args in
+    refusal-outside (a .data-length) (a .self) (r .in-range .ensures) (i .if1 .left) (f .if2 .left) (q .piece-ok .ensures) (c .if3 .left)
+
+pub refusal-spec : {M : Type 1} → statement M
+refusal-spec = tie.close (tie.spec (λ c κs. search needs) returns returns-2 (λ c κs. search needs) returns-3 returns-4)

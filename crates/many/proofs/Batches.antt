@@ -16,15 +16,14 @@ use Rattle.many.specs.Job.{runOver, jobRefusal}
 use Rattle.many.specs.Batch.{firstBad, settled, jobsRun}
 use Rattle.many.specs.declared.job.HashManyJob.{HashManyJob}
 use Rattle.many.specs.declared.batch.FirstBad.{FirstBad}
-use Rattle.many.specs.declared.batch.JobsAnswer.{JobsAnswer}
 use Rattle.many.proofs.Mapped.{mapped, behind, one-more}
 
 module _ (n : ℕ) where
-  first-here : (i : ℕ) (j : HashManyJob) (js : List HashManyJob) {r : ℕ} → r ≡ jobRefusal n j → (r ≡ accepted → ⊥) → firstBad n i (j ∷ js) ≡ record { number = r; index = i }
+  pub first-here : (i : ℕ) (j : HashManyJob) (js : List HashManyJob) {r : ℕ} → r ≡ jobRefusal n j → (r ≡ accepted → ⊥) → firstBad n i (j ∷ js) ≡ record { number = r; index = i }
   unfolding firstBad
   first-here i j js {r} e h = rw (← e, ne-eqb r accepted h)
 
-  first-later : (i : ℕ) (j : HashManyJob) (js : List HashManyJob) → jobRefusal n j ≡ accepted → firstBad n i (j ∷ js) ≡ firstBad n (suc i) js
+  pub first-later : (i : ℕ) (j : HashManyJob) (js : List HashManyJob) → jobRefusal n j ≡ accepted → firstBad n i (j ∷ js) ≡ firstBad n (suc i) js
   unfolding firstBad
   first-later i j js e = rw (eq-eqb (jobRefusal n j) accepted e)
 

@@ -1,13 +1,13 @@
 -- A block and then the rest, in two runs of the chain or in one: what a key block that went first comes to. For any compression.
 -- Assumes nothing.
-use mathlib.Core.Path.{_≡_, sym, ap, _∙_}
+use mathlib.Core.Path.{_≡_, sym, _∙_}
 use mathlib.Core.Bool.{Bool, false}
 use mathlib.Core.List.{List, _++_}
 use Prim.Native.Nat.{ℕ, _+_, _*_, _<_}
 use native.Mathlib.Omega.{arith}
-use lib.ListN.{length, take, length-append}
+use lib.ListN.{length, length-append}
 use lib.Seq.{take-all, drop-at}
-use Rattle.laws.specs.Chain.{spare, blockAt, absorb, through}
+use Rattle.laws.specs.Chain.{blockAt, absorb, through}
 use Rattle.laws.proofs.Chains.{absorb-front, through-whole, through-late}
 use Rattle.laws.proofs.Rows.{le-spare, spare-none}
 

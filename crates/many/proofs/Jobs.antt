@@ -7,12 +7,12 @@ use Prim.Native.Nat.{ℕ, _+_, _-_, _<_, _≤_}
 use native.Mathlib.Omega.{arith}
 use borrow.Author.Tests.{not-true, not-false, le-leb, lt-leb, leb-true, leb-false}
 use lib.Dec.{leb, eqb}
-use lib.ListN.{length, take, drop}
+use lib.ListN.{length}
 use Rattle.definitions.specs.Family.{BLAKE2b}
 use Rattle.definitions.specs.Hash.{start, stateBytes}
 use Rattle.laws.specs.Blocks.{throughBlocks}
 use Rattle.numbers.specs.Numbers.{accepted, total-over, piece-outside, job-unfinished, bad-record, limit, pieceOk}
-use Rattle.blake2b.specs.Hash.{isDigestLength, hashOf, noHash, madeFrom}
+use Rattle.blake2b.specs.Hash.{isDigestLength, noHash, madeFrom}
 use Rattle.blake2b.specs.Params.{inRange, asked}
 use Rattle.blake2b.specs.declared.hash.HashAnswer.{HashAnswer}
 use Rattle.blake2b.specs.declared.params.Params.{Params}

@@ -1,4 +1,8 @@
+pub mod Batches
+pub mod Firsts
 pub mod Fronts
 pub mod Jobs
 pub mod Mapped
-pub mod Batches
+pub mod Places
+pub mod Runs
+pub mod Unique

@@ -1,8 +1,7 @@
 -- `many::job::compressed` meets its contract.
 -- Assumes nothing.
-use mathlib.Core.Path.{_≡_, _∙_}
-use mathlib.Core.Bool.{Bool, _&&_}
-use mathlib.Core.List.{List}
+use mathlib.Core.Path.{_∙_}
+use mathlib.Core.Bool.{_&&_}
 use denote.Ref.{now}
 use Rattle.definitions.specs.Family.{BLAKE2b}
 use Rattle.laws.specs.Blocks.{throughBlocks}

@@ -6,7 +6,7 @@ use mathlib.Core.List.{List}
 use Prim.Native.Nat.{ℕ, _+_, _-_, _<_, _≤_}
 use native.Mathlib.Omega.{arith}
 use borrow.Author.Tests.{not-true, not-false, le-leb, lt-leb, leb-true, leb-false}
-use lib.Dec.{leb, eqb}
+use lib.Dec.{leb}
 use lib.ListN.{length}
 use Rattle.definitions.specs.Family.{BLAKE2b}
 use Rattle.definitions.specs.Hash.{start, stateBytes}
@@ -17,7 +17,7 @@ use Rattle.blake2b.specs.Params.{inRange, asked}
 use Rattle.blake2b.specs.declared.hash.HashAnswer.{HashAnswer}
 use Rattle.blake2b.specs.declared.params.Params.{Params}
 use Rattle.blake2b.proofs.States.{made-hash}
-use Rattle.many.specs.Job.{noJob, jobInRange, keyBytes, beginning, begun, madeJob, ran, inputOf, runOver, jobRefusal, jobHash}
+use Rattle.many.specs.Job.{noJob, jobInRange, finishedAtOnce, keyBytes, firstWords, begun, madeJob, ran, inputOf, runOver, jobRefusal, jobHash}
 use Rattle.many.specs.declared.job.HashManyJob.{HashManyJob}
 use Rattle.many.specs.declared.job.JobAnswer.{JobAnswer}
 
@@ -58,18 +58,27 @@ key-bytes-short p = split (leb 1 (p .«key_length»))
     split true = omega arith
     split false = omega arith
 
--- the job that no check refused: without a key, and with one
-module _ (p : Params) (at n : ℕ) {keyed node : Bool} {v : List ℕ} {l : ℕ} (k : keyed ≡ leb 1 (p .«key_length»)) (words : v ≡ start BLAKE2b (asked p)) (flag : node ≡ p .«last_node»)
-    (asks : l ≡ p .«hash_length») where
-  pub begun-plain : not keyed ≡ true → record { words = v; count = 0; «last_node» = node; «hash_length» = l; start = at; length = n; finished = false } ≡ begun p at n
-  unfolding beginning keyBytes
-  begun-plain h = rw (sym k ∙ not-true keyed h, words, flag, asks)
+-- the words before the input: without a key, and with one
+module _ (p : Params) (last : Bool) {keyed : Bool} {v : List ℕ} (k : keyed ≡ leb 1 (p .«key_length»)) (e : v ≡ start BLAKE2b (asked p)) where
+  pub words-plain : not keyed ≡ true → v ≡ firstWords p last
+  unfolding firstWords
+  words-plain h = rw (sym k ∙ not-true keyed h) e
 
-  pub begun-keyed : not keyed ≡ false → {w b : List ℕ} {up : Bool} → b ≡ p .«key_block» → up ≡ p .«last_node»
-      → w ≡ throughBlocks BLAKE2b 128 v 0 (eqb n 0) (eqb n 0 && up) b
-      → record { words = w; count = 128; «last_node» = node; «hash_length» = l; start = at; length = n; finished = eqb n 0 } ≡ begun p at n
-  unfolding beginning keyBytes
-  begun-keyed h e f g = rw (sym k ∙ not-false keyed h, g, words, e, f, flag, asks)
+  pub words-keyed : not keyed ≡ false → {w b : List ℕ} {node : Bool} → b ≡ p .«key_block» → node ≡ p .«last_node» → w ≡ throughBlocks BLAKE2b 128 v 0 last (last && node) b → w ≡ firstWords p last
+  unfolding firstWords
+  words-keyed h f g r = rw (sym k ∙ not-false keyed h) (r ∙ (λ i. throughBlocks BLAKE2b 128 (e i) 0 last (last && g i) (f i)))
+
+pub begun-made : (p : Params) (at n : ℕ) {f node : Bool} {w : List ℕ} {t l : ℕ} → f ≡ finishedAtOnce p n → w ≡ firstWords p f → t ≡ keyBytes p → node ≡ p .«last_node» → l ≡ p .«hash_length»
+    → record { words = w; count = t; «last_node» = node; «hash_length» = l; start = at; length = n; finished = f } ≡ begun p at n
+begun-made p at n e g h k j = λ i. record {
+  words = (g ∙ ap (firstWords p) e) i;
+  count = h i;
+  «last_node» = k i;
+  «hash_length» = j i;
+  start = at;
+  length = n;
+  finished = e i;
+}
 
 -- making a job
 module _ (p : Params) (d : List ℕ) (at n : ℕ) {good : Bool} (e : good ≡ inRange p) where

@@ -1,7 +1,7 @@
 -- Batches by place: the result at a place is the one-shot digest of that place's own job, whatever the other jobs are and however many there may be.
 -- Refused batches, finished jobs and jobs behind the used ones are left as they were. Assumes nothing.
 use mathlib.Core.Path.{_≡_, refl, sym, ap, subst, _∙_}
-use mathlib.Core.Bool.{Bool, true, false, _&&_, or-true}
+use mathlib.Core.Bool.{Bool, true, false, or-true}
 use mathlib.Core.List.{List, []}
 use Prim.Native.Nat.{ℕ, _<_, _≤_, min}
 use native.Mathlib.Omega.{arith}
@@ -17,7 +17,7 @@ use Rattle.blake2b.specs.Params.{asked, keyOf, Clean}
 use Rattle.blake2b.specs.State.{digest, hashed}
 use Rattle.blake2b.specs.declared.params.Params.{Params}
 use Rattle.blake2b.proofs.Rows.{digest-is-hash}
-use Rattle.many.specs.Job.{madeJob, begun, runOver, jobRefusal, jobHash}
+use Rattle.many.specs.Job.{finishedAtOnce, begun, madeJob, runOver, jobRefusal, jobHash}
 use Rattle.many.specs.Batch.{firstBad, jobsRun}
 use Rattle.many.specs.declared.job.HashManyJob.{HashManyJob}
 use Rattle.many.specs.declared.batch.FirstBad.{FirstBad}
@@ -109,7 +109,7 @@ module _ (p : Params) (clean : Clean p) (first : List ℕ) (at n : ℕ) (ok : ma
   made-accepted d fits = let m = made p first at n ok in rw (m .is, begun-range p (m .good) at n (m .within), fits, or-true)
 
   -- before its batch it is not finished, and has no digest, where it has no key or some input
-  pub made-unfinished : (leb 1 (p .«key_length») && eqb n 0) ≡ false → jobHash (madeJob p first at n .job) ≡ noHash job-unfinished
+  pub made-unfinished : finishedAtOnce p n ≡ false → jobHash (madeJob p first at n .job) ≡ noHash job-unfinished
   unfolding jobHash
   made-unfinished some = let m = made p first at n ok in rw (m .is, begun-range p (m .good) at n (m .within), some)
 

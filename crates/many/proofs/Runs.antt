@@ -20,7 +20,7 @@ use Rattle.blake2b.specs.State.{digest, hashed}
 use Rattle.blake2b.specs.declared.params.Params.{Params}
 use Rattle.blake2b.proofs.OneShot.{digest-asked}
 use Rattle.blake2b.proofs.Pushes.{length-front}
-use Rattle.many.specs.Job.{noJob, jobInRange, keyBytes, beginning, begun, madeJob, ran, inputOf, runOver, jobRefusal, jobHash}
+use Rattle.many.specs.Job.{noJob, jobInRange, keyBytes, firstWords, begun, madeJob, ran, inputOf, runOver, jobRefusal, jobHash}
 use Rattle.many.specs.declared.job.HashManyJob.{HashManyJob}
 use Rattle.many.proofs.Fronts.{through-behind}
 use Rattle.many.proofs.Jobs.{run-finished, run-unfinished, accepted-inside, refusal-finished}
@@ -83,8 +83,9 @@ made p d at n e =
 
 -- the words of a job after its run: with a key that went first, without one, and with one and no input
 words-after : (keyed : Bool) (w b : List ℕ) (node : Bool) (m : List ℕ) → length b ≡ 128
-    → let v : List ℕ = cond keyed (throughBlocks BLAKE2b 128 w 0 (eqb (length m) 0) (eqb (length m) 0 && node) b) w in
-    cond (keyed && eqb (length m) 0) v (throughBlocks BLAKE2b 128 v (cond keyed 128 0) true node m) ≡ throughBlocks BLAKE2b 128 w 0 true node (cond keyed b [] ++ m)
+    → let last : Bool = keyed && eqb (length m) 0 in
+    let v : List ℕ = cond keyed (throughBlocks BLAKE2b 128 w 0 last (last && node) b) w in
+    cond last v (throughBlocks BLAKE2b 128 v (cond keyed 128 0) true node m) ≡ throughBlocks BLAKE2b 128 w 0 true node (cond keyed b [] ++ m)
 words-after false w b node m l = refl
 words-after true w b node [] l = ap (throughBlocks BLAKE2b 128 w 0 true node) (sym (append-nil b))
 words-after true w b node (x ∷ m) l =
@@ -108,7 +109,7 @@ module _ (p : Params) (good : inRange p ≡ true) (at n : ℕ) (within : keyByte
   -- a run over data that hold the range
   module _ (whole : length (p .«key_block») ≡ 128) (d : List ℕ) (held : length (take n (drop at d)) ≡ n) where
     begun-words : last-words d (begun p at n) ≡ throughBlocks BLAKE2b 128 (start BLAKE2b (asked p)) 0 true (p .«last_node») (front p ++ take n (drop at d))
-    unfolding beginning keyBytes front
+    unfolding firstWords keyBytes front
     begun-words =
         let e = words-after (leb 1 (p .«key_length»)) (start BLAKE2b (asked p)) (p .«key_block») (p .«last_node») (take n (drop at d)) whole in
         rw held at e

@@ -32,23 +32,27 @@ jobInRange j = isDigestLength (j .«hash_length») && leb (j .count + j .length)
 unfoldable pub keyBytes : Params → ℕ
 keyBytes p = cond (leb 1 (p .«key_length»)) 128 0
 
--- the words before the input: where there is a key its block has gone, as the last block where no input follows
-unfoldable pub beginning : Params → Bool → List ℕ
-beginning p last =
+-- a job with a key and no input is finished by its key block
+abbrev pub finishedAtOnce : Params → ℕ → Bool
+finishedAtOnce p n = leb 1 (p .«key_length») && eqb n 0
+
+-- the words before the input, the key block having gone where there is one: as the last block, or not
+unfoldable pub firstWords : Params → Bool → List ℕ
+firstWords p last =
     cond (leb 1 (p .«key_length»))
     (throughBlocks BLAKE2b 128 (start BLAKE2b (asked p)) 0 last (last && p .«last_node») (p .«key_block»))
     (start BLAKE2b (asked p))
 
--- a job for n bytes from a place on: with a key and no input it is finished
+-- a job for n bytes from a place on
 abbrev pub begun : Params → ℕ → ℕ → HashManyJob
 begun p at n = record {
-  words = beginning p (eqb n 0);
+  words = firstWords p (finishedAtOnce p n);
   count = keyBytes p;
   «last_node» = p .«last_node»;
   «hash_length» = p .«hash_length»;
   start = at;
   length = n;
-  finished = leb 1 (p .«key_length») && eqb n 0;
+  finished = finishedAtOnce p n;
 }
 
 -- making one: 14, then 9, then 6

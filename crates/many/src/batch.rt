@@ -19,9 +19,9 @@ pub struct JobsAnswer {
 }
 
 // The refusal and the index of the first bad job, or an acceptance and 0.
-pub struct FirstBad {
-    pub number: u8,
-    pub index: usize,
+struct FirstBad {
+    number: u8,
+    index: usize,
 }
 
 fn first_bad(jobs: [HashManyJob; MOST_JOBS], used: usize, data_length: usize) -> FirstBad

@@ -23,7 +23,7 @@ ghost use Rattle.laws.specs.Blocks.{throughBlocks};
 ghost use Rattle.numbers.specs.Numbers.{accepted};
 ghost use Rattle.portable.specs.Guts.{finalizes, isLastNode};
 ghost use Rattle.blake2b.specs.Hash.{noHash};
-ghost use Rattle.many.specs.Job.{zeroJob, noJob, jobInRange, keyBytes, begun, madeJob, ran, runOver, jobRefusal, jobHash};
+ghost use Rattle.many.specs.Job.{zeroJob, noJob, jobInRange, finishedAtOnce, keyBytes, firstWords, begun, madeJob, ran, runOver, jobRefusal, jobHash};
 
 pub struct HashManyJob {
     pub(crate) words: [u64; 8],
@@ -69,41 +69,51 @@ fn compressed(words: [u64; 8], count: u64, input: &[u8], last: bool, last_node: 
     run.words
 }
 
-// What a job starts as that no check refused.
+// A job with a key and no input is finished by its key block.
+fn is_finished_at_once(params: Params, length: usize) -> bool
+    ensures { λ r. ⌜ r ≡ finishedAtOnce params length ⌝ }
+{
+    if params.is_keyed() {
+        length == 0
+    } else {
+        false
+    }
+}
+
+// The bytes of the key block, where there is one.
+fn key_bytes(params: Params) -> u64
+    ensures { λ r. ⌜ r ≡ keyBytes params ⌝ }
+{
+    if params.is_keyed() { 128 } else { 0 }
+}
+
+// The words before the input, a key block having gone where there is one: as the last block, or not.
+fn first_words(params: Params, last: bool) -> [u64; 8]
+    ensures { λ r. ⌜ r ≡ firstWords params last ⌝ }
+{
+    let words = params.to_words();
+    if !params.is_keyed() {
+        return words;
+    }
+    let block = params.key_block();
+    compressed(words, 0, &block, last, params.is_last_node())
+}
+
+// The job that `new` makes once its checks are passed.
 fn begin(params: Params, start: usize, length: usize) -> HashManyJob
     ensures { λ r. ⌜ r ≡ begun params start length ⌝ }
 {
-    let first = params.to_words();
-    if !params.is_keyed() {
-        return HashManyJob {
-            words: first,
-            count: 0,
-            last_node: params.is_last_node(),
-            hash_length: params.digest_length(),
-            start,
-            length,
-            finished: false,
-        };
-    }
-    let finished = length == 0;
-    let block = params.key_block();
-    let words = compressed(first, 0, &block, finished, params.is_last_node());
+    let finished = is_finished_at_once(params, length);
+    let words = first_words(params, finished);
     HashManyJob {
         words,
-        count: 128,
+        count: key_bytes(params),
         last_node: params.is_last_node(),
         hash_length: params.digest_length(),
         start,
         length,
         finished,
     }
-}
-
-// The key block's bytes that count to the total of a job.
-fn key_bytes(params: Params) -> u64
-    ensures { λ r. ⌜ r ≡ keyBytes params ⌝ }
-{
-    if params.is_keyed() { 128 } else { 0 }
 }
 
 fn refused_job(number: u8) -> JobAnswer
@@ -180,10 +190,7 @@ impl HashManyJob {
         if !self.in_range() {
             return RECORD;
         }
-        if self.finished {
-            return ACCEPTED;
-        }
-        if piece_ok(self.start, self.length, data_length) {
+        if self.finished || piece_ok(self.start, self.length, data_length) {
             return ACCEPTED;
         }
         PIECE

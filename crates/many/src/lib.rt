@@ -4,6 +4,7 @@ mod batch;
 mod job;
 
 pub use batch::JobsAnswer;
+pub use batch::MOST_JOBS;
 pub use batch::hash_many;
 pub use job::HashManyJob;
 pub use job::JobAnswer;

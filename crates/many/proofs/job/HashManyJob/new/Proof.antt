@@ -19,40 +19,38 @@ module _ (p : Params) (n : ℕ) {k : ℕ} (e : k ≡ keyBytes p) where
   within : n ≤ limit - k → keyBytes p + n ≤ limit
   within h = let s = key-bytes-short p in omega arith
 
+abbrev begun : tie.After-in-range → tie.Start
+begun r = r .before .before
+
 returns : tie.Need-returns
 returns c =
     let r = c .before .before in
-    let a = r .before .before .args in
+    let a = begun r .args in
     made-bad (a .params) (a .«data» .now) (a .start) (a .length) (r .in-range .ensures) (c .before .if1 .taken) (c .refused-job .ensures)
 
 returns-2 : tie.Need-returns-2
 returns-2 c =
     let q = c .before .before in
     let i = q .before in
-    let r = i .before in
-    let a = r .before .before .args in
-    made-outside (a .params) (a .«data» .now) (a .start) (a .length) (r .in-range .ensures) (i .if1 .left) (q .piece-ok .ensures) (c .before .if2 .taken) (c .refused-job2 .ensures)
+    let a = begun (i .before) .args in
+    made-outside (a .params) (a .«data» .now) (a .start) (a .length) (i .before .in-range .ensures) (i .if1 .left) (q .piece-ok .ensures) (c .before .if2 .taken) (c .refused-job2 .ensures)
 
 returns-3 : tie.Need-returns-3
 returns-3 c =
     let k = c .before .before in
-    let f = k .before in
-    let q = f .before in
+    let q = k .before .before in
     let i = q .before in
-    let r = i .before in
-    let a = r .before .before .args in
-    made-over (a .params) (a .«data» .now) (a .start) (a .length) (r .in-range .ensures) (i .if1 .left) (q .piece-ok .ensures) (f .if2 .left)
+    let a = begun (i .before) .args in
+    made-over (a .params) (a .«data» .now) (a .start) (a .length) (i .before .in-range .ensures) (i .if1 .left) (q .piece-ok .ensures) (k .before .if2 .left)
     (past (a .params) (a .length) (k .key-bytes .ensures) (c .before .if3 .taken)) (c .refused-job3 .ensures)
 
 returns-4 : tie.Need-returns-4
 returns-4 c =
     let k = c .before .before in
-    let f = k .before in
-    let q = f .before in
+    let q = k .before .before in
     let i = q .before in
-    let r = i .before in
-    let a = r .before .before .args in
-    made-begun (a .params) (a .«data» .now) (a .start) (a .length) (r .in-range .ensures) (i .if1 .left) (q .piece-ok .ensures) (f .if2 .left)
+    let a = begun (i .before) .args in
+    made-begun (a .params) (a .«data» .now) (a .start) (a .length) (i .before .in-range .ensures) (i .if1 .left) (q .piece-ok .ensures) (k .before .if2 .left)
     (within (a .params) (a .length) (k .key-bytes .ensures) (c .before .if3 .left)) (c .begin .ensures)
 
 pub new-spec : {M : Type 1} → statement M

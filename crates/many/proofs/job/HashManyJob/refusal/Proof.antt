@@ -1,5 +1,6 @@
 -- `many::job::HashManyJob::refusal` meets its contract.
 -- Assumes nothing.
+use mathlib.Core.Logic.{⊎-elim}
 use Rattle.many.proofs.Jobs.{refusal-bad, refusal-finished, refusal-inside, refusal-outside}
 use borrow.Author.Needs.{needs}
 use Rattle.many.proofs.job.HashManyJob.refusal.Statement.{statement}
@@ -16,7 +17,10 @@ returns-2 c =
     let i = c .before in
     let r = i .before in
     let a = r .before .args in
-    refusal-finished (a .data-length) (a .self) (r .in-range .ensures) (i .if1 .left) (c .if2 .taken)
+    ⊎-elim
+    (λ w. refusal-finished (a .data-length) (a .self) (r .in-range .ensures) (i .if1 .left) (w .taken))
+    (λ w. refusal-inside (a .data-length) (a .self) (r .in-range .ensures) (i .if1 .left) (w .0 .left) (w .1 .ensures) (w .2 .taken))
+    (c .if2 .came)
 
 returns-3 : tie.Need-returns-3
 returns-3 c =
@@ -25,16 +29,7 @@ returns-3 c =
     let i = f .before in
     let r = i .before in
     let a = r .before .args in
-    refusal-inside (a .data-length) (a .self) (r .in-range .ensures) (i .if1 .left) (f .if2 .left) (q .piece-ok .ensures) (c .if3 .taken)
-
-returns-4 : tie.Need-returns-4
-returns-4 c =
-    let q = c .before in
-    let f = q .before in
-    let i = f .before in
-    let r = i .before in
-    let a = r .before .args in
     refusal-outside (a .data-length) (a .self) (r .in-range .ensures) (i .if1 .left) (f .if2 .left) (q .piece-ok .ensures) (c .if3 .left)
 
 pub refusal-spec : {M : Type 1} → statement M
-refusal-spec = tie.close (tie.spec (λ c κs. search needs) returns returns-2 (λ c κs. search needs) returns-3 returns-4)
+refusal-spec = tie.close (tie.spec (λ c κs. search needs) returns (λ c κs. search needs) returns-2 returns-3)

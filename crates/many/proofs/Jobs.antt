@@ -17,7 +17,7 @@ use Rattle.blake2b.specs.Params.{inRange, asked}
 use Rattle.blake2b.specs.declared.hash.HashAnswer.{HashAnswer}
 use Rattle.blake2b.specs.declared.params.Params.{Params}
 use Rattle.blake2b.proofs.States.{made-hash}
-use Rattle.many.specs.Job.{noJob, jobInRange, finishedAtOnce, keyBytes, firstWords, begun, madeJob, ran, inputOf, runOver, jobRefusal, jobHash}
+use Rattle.many.specs.Job.{zeroJob, noJob, jobInRange, finishedAtOnce, keyBytes, firstWords, begun, madeJob, ran, inputOf, runOver, jobRefusal, jobHash}
 use Rattle.many.specs.declared.job.HashManyJob.{HashManyJob}
 use Rattle.many.specs.declared.job.JobAnswer.{JobAnswer}
 
@@ -161,3 +161,8 @@ module _ (j : HashManyJob) {good : Bool} (e : good ≡ jobInRange j) {r : HashAn
   hash-finished h g f =
       let q = sym e ∙ not-false good h in
       rw (q, not-false (j .finished) g) (made-hash (j .«hash_length») (stateBytes BLAKE2b (j .words)) (in-range j q .0) f)
+
+-- the zero job of a refusal is refused with 14
+pub zero-refused : (n : ℕ) → (jobRefusal n zeroJob ≡ bad-record) × (jobHash zeroJob ≡ noHash bad-record)
+unfolding jobRefusal jobHash jobInRange
+zero-refused n = (refl, refl)

@@ -1,0 +1,18 @@
+-- `many::job::key_bytes` meets its contract.
+-- Assumes nothing.
+use mathlib.Core.Path.{sym, _∙_}
+use Rattle.many.specs.Job.{keyBytes}
+use borrow.Author.Needs.{needs}
+use Rattle.many.proofs.job.key_bytes.Statement.{statement}
+use Rattle.many.proofs.job.key_bytes.Tie as tie
+
+returns : tie.Need-returns
+unfolding keyBytes
+returns c = rw (sym (c .before .is-keyed .ensures) ∙ c .if1 .taken)
+
+returns-2 : tie.Need-returns-2
+unfolding keyBytes
+returns-2 c = rw (sym (c .before .is-keyed .ensures) ∙ c .if1 .left)
+
+pub key-bytes-spec : {M : Type 1} → statement M
+key-bytes-spec = tie.close (tie.spec (λ c κs. search needs) returns returns-2)

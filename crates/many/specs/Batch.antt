@@ -1,0 +1,34 @@
+-- A batch: the first bad job decides, and where there is none each job is run at its place. Over any list of jobs and any limit.
+-- Assumes nothing.
+use mathlib.Core.Bool.{cond}
+use mathlib.Core.List.{List, [], _∷_, _++_, map}
+use Prim.Native.Nat.{ℕ, suc}
+use lib.Dec.{leb, eqb}
+use lib.ListN.{length, take, drop}
+use Rattle.numbers.specs.Numbers.{accepted, batch-long}
+use Rattle.many.specs.Job.{runOver, jobRefusal}
+use Rattle.many.specs.declared.job.HashManyJob.{HashManyJob}
+use Rattle.many.specs.declared.batch.FirstBad.{FirstBad}
+use Rattle.many.specs.declared.batch.JobsAnswer.{JobsAnswer}
+
+-- a batch has at most so many jobs
+abbrev pub most-jobs : ℕ
+most-jobs = 16
+
+-- of jobs over n bytes of data, the first of which stands at the place i: the refusal and the place of the first bad one
+unfoldable pub firstBad : ℕ → ℕ → List HashManyJob → FirstBad
+firstBad n i [] = record { number = accepted; index = 0 }
+firstBad n i (j ∷ js) = cond (eqb (jobRefusal n j) accepted) (firstBad n (suc i) js) (record { number = jobRefusal n j; index = i })
+
+-- the jobs, of which the used ones are run where none is bad
+abbrev pub settled : FirstBad → List HashManyJob → ℕ → List ℕ → JobsAnswer
+settled bad jobs used d = record {
+  number = bad .number;
+  index = bad .index;
+  jobs = cond (eqb (bad .number) accepted) (map (runOver d) (take used jobs) ++ drop used jobs) jobs;
+}
+
+-- 10 where more are used than the limit, then job by job; behind the used ones none is looked at
+unfoldable pub jobsRun : ℕ → List HashManyJob → ℕ → List ℕ → JobsAnswer
+jobsRun most jobs used d =
+    cond (leb used most) (settled (firstBad (length d) 0 (take used jobs)) jobs used d) (record { number = batch-long; index = 0; jobs = jobs })

@@ -1,0 +1,78 @@
+// A batch of jobs over one lent buffer: all are checked, the first bad one decides, and only then is any run.
+// Each result stands at its job's place.
+use crate::job::HashManyJob;
+use numbers::ACCEPTED;
+use numbers::BATCH;
+ghost use mathlib.Core.Path.{_≡_};
+ghost use Prim.Native.Nat.{_≤_};
+ghost use lib.ListN.{take};
+ghost use Rattle.many.specs.Batch.{most-jobs, firstBad, jobsRun};
+
+// A batch has at most so many jobs.
+pub const MOST_JOBS: usize = 16;
+
+// The jobs that were run, or those handed in with a refusal and the index of the first bad one.
+pub struct JobsAnswer {
+    pub number: u8,
+    pub index: usize,
+    pub jobs: [HashManyJob; MOST_JOBS],
+}
+
+// The refusal and the index of the first bad job, or an acceptance and 0.
+struct FirstBad {
+    number: u8,
+    index: usize,
+}
+
+fn first_bad(jobs: [HashManyJob; MOST_JOBS], used: usize, data_length: usize) -> FirstBad
+    requires { ⌜ used ≤ most-jobs ⌝ }
+    ensures { λ r. ⌜ r ≡ firstBad «data_length» 0 (take used jobs) ⌝ }
+{
+    let mut i: usize = 0;
+    while i < used {
+        let job = jobs[i];
+        let number = job.refusal(data_length);
+        if number != ACCEPTED {
+            return FirstBad { number, index: i };
+        }
+        i += 1;
+    }
+    FirstBad {
+        number: ACCEPTED,
+        index: 0,
+    }
+}
+
+// Running twice has no effect: a finished job is not run again.
+pub fn hash_many(jobs: [HashManyJob; MOST_JOBS], used: usize, data: &[u8]) -> JobsAnswer
+    ensures { λ r. ⌜ r ≡ jobsRun most-jobs jobs used (now («data» .entry)) ⌝ }
+{
+    if used > MOST_JOBS {
+        return JobsAnswer {
+            number: BATCH,
+            index: 0,
+            jobs,
+        };
+    }
+    let bad = first_bad(jobs, used, data.len());
+    if bad.number != ACCEPTED {
+        return JobsAnswer {
+            number: bad.number,
+            index: bad.index,
+            jobs,
+        };
+    }
+    let mut after = jobs;
+    let mut i: usize = 0;
+    while i < used {
+        let job = after[i];
+        let next = job.run_over(data);
+        after[i] = next;
+        i += 1;
+    }
+    JobsAnswer {
+        number: ACCEPTED,
+        index: 0,
+        jobs: after,
+    }
+}

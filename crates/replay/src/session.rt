@@ -1,8 +1,5 @@
-// What a script has at hand between two lines, and what a line makes of it.
-// Every call takes the session and hands it back.
-use crate::answer::Answer;
-use crate::answer::Fault;
-use crate::answer::Fields;
+// What a script has at hand between two lines, and what a call makes of it.
+// Every call takes the session and hands it back, with the length of the answer that it put.
 use blake2b::Hash;
 use blake2b::Params;
 use blake2b::State;
@@ -15,9 +12,9 @@ pub struct Session {
     pub(crate) kept: Hash,
 }
 
-pub struct Step {
+pub struct Reply {
     pub session: Session,
-    pub answer: Answer,
+    pub length: usize,
 }
 
 impl Session {
@@ -31,27 +28,6 @@ impl Session {
             state,
             last,
             kept,
-        }
-    }
-
-    pub fn malformed(self, fault: Fault) -> Step {
-        Step {
-            session: self,
-            answer: Answer::Malformed(fault),
-        }
-    }
-
-    pub fn silent(self) -> Step {
-        Step {
-            session: self,
-            answer: Answer::Nothing,
-        }
-    }
-
-    pub fn answered(self, fields: Fields) -> Step {
-        Step {
-            session: self,
-            answer: Answer::Call(fields),
         }
     }
 
@@ -77,5 +53,12 @@ impl Session {
         let mut s = self;
         s.kept = kept;
         s
+    }
+
+    pub fn answered(self, length: usize) -> Reply {
+        Reply {
+            session: self,
+            length,
+        }
     }
 }

@@ -4,9 +4,11 @@ use bytes::scan::find;
 use libc::STDIN_FILENO;
 use libc::STDOUT_FILENO;
 use replay::Session;
-use replay::part;
-use replay::put;
 use replay::run_line;
+use replay_text::LINE;
+use replay_text::part;
+use replay_text::push;
+use replay_text::put;
 
 // The session, how many bytes of an unfinished line are held, and whether there may be more to read.
 struct Place {
@@ -15,31 +17,40 @@ struct Place {
     more: bool,
 }
 
-// A line that is complete: its answer is written. The longest one shows 1,024 bytes.
+// An answer is written as a line, where there is one.
+fn write_line(out: &mut [u8], length: usize) {
+    if length > 0 {
+        let end = push(out, length, b'\n');
+        io::write_all(STDOUT_FILENO, part(out, 0, end));
+    }
+}
+
+// The longest answer, which shows 1,024 bytes, has room in the buffer's 4,096.
 fn run(session: Session, line: &[u8], space: &mut [u8]) -> Session {
-    let mut out = [0u8; 4096];
+    let mut out = io::buffer();
     let done = run_line(session, line, space, &mut out);
-    io::write_all(STDOUT_FILENO, part(&out, 0, done.length));
+    write_line(&mut out, done.length);
     done.session
+}
+
+// The line that is held is complete.
+fn complete(place: Place, line: &[u8], space: &mut [u8]) -> Place {
+    let mut next = place;
+    let session = place.session;
+    let after = run(session, part(line, 0, place.held), space);
+    next.session = after;
+    next.held = 0;
+    next
 }
 
 // A part of a line, and whether it completes the line. What has no room is left out: the line is too long whatever it is.
 fn take_part(place: Place, text: &[u8], last: bool, line: &mut [u8], space: &mut [u8]) -> Place {
-    let session = place.session;
-    let held = put(line, place.held, text);
+    let mut next = place;
+    next.held = put(line, place.held, text);
     if last {
-        let next = run(session, part(line, 0, held), space);
-        return Place {
-            session: next,
-            held: 0,
-            more: true,
-        };
+        return complete(next, line, space);
     }
-    Place {
-        session,
-        held,
-        more: true,
-    }
+    next
 }
 
 // Bytes that were read.
@@ -61,10 +72,7 @@ fn finish(place: Place, line: &[u8], space: &mut [u8], readable: bool) -> Place 
     let mut last = place;
     last.more = false;
     if readable {
-        let session = place.session;
-        let next = run(session, part(line, 0, place.held), space);
-        last.session = next;
-        return last;
+        return complete(last, line, space);
     }
     io::write_all(STDOUT_FILENO, b"unreadable\n");
     last
@@ -97,9 +105,14 @@ fn read_all(line: &mut [u8], space: &mut [u8]) {
     }
 }
 
+// As long as the longest message.
+fn empty_space() -> [u8; 4194304] {
+    [0; 4194304]
+}
+
 // A line's buffer has a byte more than the longest line, so that a longer one is seen; messages are made in the space.
 fn main() {
-    let mut line = [0u8; 8193];
-    let mut space = [0u8; 4194304];
+    let mut line = [0u8; LINE + 1];
+    let mut space = empty_space();
     read_all(&mut line, &mut space);
 }

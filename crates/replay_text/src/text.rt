@@ -2,9 +2,6 @@
 // A mark is a byte between two parts: a space, a colon, a bracket.
 use bytes::scan::find;
 
-// The largest number there is.
-pub const ANY: u64 = 0xFFFF_FFFF_FFFF_FFFF;
-
 // A number that was read.
 pub enum Number {
     Value(u64),
@@ -36,7 +33,7 @@ fn with_digit(value: u64, digit: u8) -> Number {
         return Number::Malformed;
     }
     let ones = (digit - b'0') as u64;
-    if value > (ANY - ones) / 10 {
+    if value > (u64::MAX - ones) / 10 {
         return Number::Malformed;
     }
     Number::Value(value * 10 + ones)
@@ -65,4 +62,9 @@ pub fn read_number(text: &[u8], most: u64) -> Number {
 // The low byte of a number: all of one that was read as at most 255.
 pub fn low8(n: u64) -> u8 {
     (n % 256) as u8
+}
+
+// The low four bytes of a number: all of one that was read as at most 2^32 - 1.
+pub fn low32(n: u64) -> u32 {
+    (n % 0x1_0000_0000) as u32
 }

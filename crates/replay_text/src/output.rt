@@ -12,6 +12,14 @@ pub fn part<'a>(bytes: &'a [u8], from: usize, to: usize) -> &'a [u8] {
     &bytes[..0]
 }
 
+// The front of a buffer that is written to: nothing where it is shorter.
+pub fn front<'a>(buffer: &'a mut [u8], length: usize) -> &'a mut [u8] {
+    if length <= buffer.len() {
+        return &mut buffer[0..length];
+    }
+    &mut buffer[0..0]
+}
+
 pub fn push(out: &mut [u8], at: usize, byte: u8) -> usize {
     if at < out.len() {
         out[at] = byte;

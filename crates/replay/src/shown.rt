@@ -1,0 +1,73 @@
+// The calls of a script that hand back no record, and leave the session as it is.
+// An output that a call writes to is filled beforehand, so that untouched bytes are seen.
+use crate::session::Reply;
+use crate::session::Session;
+use blake2b::CountAnswer;
+use blake2b::EqualAnswer;
+use blake2b::Hash;
+use blake2b::LengthAnswer;
+use replay_text::front;
+use replay_text::part;
+use replay_text::put_bytes;
+use replay_text::put_field;
+
+const FILL: u8 = 0xA5;
+
+// The longest output, in bytes: what the rows of the writes take.
+const ROOM: usize = 1024;
+
+fn put_count(out: &mut [u8], answer: CountAnswer) -> usize {
+    put_field(out, answer.number, b" count=", answer.count)
+}
+
+fn put_length(out: &mut [u8], answer: LengthAnswer) -> usize {
+    put_field(out, answer.number, b" length=", answer.length as u64)
+}
+
+fn put_equal(out: &mut [u8], answer: EqualAnswer) -> usize {
+    put_field(out, answer.number, b" equal=", answer.equal as u64)
+}
+
+fn filled() -> [u8; ROOM] {
+    [FILL; ROOM]
+}
+
+fn write(hash: Hash, row: usize, output: &mut [u8]) -> LengthAnswer {
+    match row {
+        27 | 29 => hash.write_bytes(output),
+        _ => hash.write_hex(output),
+    }
+}
+
+// What is shown of an output: all of it, or the part that a call hands back as written.
+fn seen<'a>(hash: Hash, row: usize, output: &'a [u8]) -> &'a [u8] {
+    match row {
+        29 => hash.written_bytes(output),
+        30 => hash.written_hex(output),
+        _ => output,
+    }
+}
+
+fn put_output(out: &mut [u8], hash: Hash, row: usize, room: usize) -> usize {
+    let mut buffer = filled();
+    let answer = write(hash, row, front(&mut buffer, room));
+    let bytes = seen(hash, row, part(&buffer, 0, room));
+    put_bytes(out, answer.number, answer.length, bytes)
+}
+
+fn show(session: Session, row: usize, n: u64, message: &[u8], out: &mut [u8]) -> usize {
+    let state = session.state;
+    let last = session.last;
+    let kept = session.kept;
+    match row {
+        23 => put_count(out, state.count()),
+        24 => put_length(out, last.len()),
+        25 => put_equal(out, last.equals(kept)),
+        26 => put_equal(out, last.equals_bytes(message)),
+        _ => put_output(out, last, row, n as usize),
+    }
+}
+
+pub fn call(session: Session, row: usize, n: u64, message: &[u8], out: &mut [u8]) -> Reply {
+    session.answered(show(session, row, n, message, out))
+}

@@ -13,7 +13,7 @@ use Rattle.definitions.specs.Words.{pad}
 use Rattle.definitions.proofs.Lengths.{length-pad}
 use Rattle.laws.specs.Chain.{zeros}
 use Rattle.blake2b.specs.Hash.{isDigestLength}
-use Rattle.blake2b.specs.Params.{defaults, inRange, answered, withNumber, withFields, hash-length-at, fanout-at, max-depth-at, max-leaf-length-at, node-offset-at, node-depth-at, inner-hash-length-at, withKey, Clean, Setting, hash-length, key, salt, personal, fanout, max-depth, max-leaf-length, node-offset, node-depth, inner-hash-length, last-node, afterSetting}
+use Rattle.blake2b.specs.Params.{defaults, inRange, answered, withNumber, withFields, hash-length-at, fanout-at, max-depth-at, max-leaf-length-at, node-offset-at, node-depth-at, inner-hash-length-at, withKey, withSalt, withPersonal, Clean, Setting, hash-length, key, salt, personal, fanout, max-depth, max-leaf-length, node-offset, node-depth, inner-hash-length, last-node, afterSetting}
 use Rattle.blake2b.specs.declared.params.Params.{Params}
 
 -- what parameters out of this crate keep
@@ -81,8 +81,8 @@ good-fields p s q node g = record { ranged = g .ranged; clean = record { whole =
 pub good-after : (p : Params) (s : Setting) → Good p → Good (afterSetting p s)
 good-after p (hash-length n) g = good-answered p _ _ _ g (good-digest n p g)
 good-after p (key k) g = good-answered p _ _ _ g (good-key k p g)
-good-after p (salt s) g = good-answered p _ _ _ g (λ e. good-fields p (pad 16 s) (p .personal) (p .«last_node») g)
-good-after p (personal s) g = good-answered p _ _ _ g (λ e. good-fields p (p .salt) (pad 16 s) (p .«last_node») g)
+good-after p (salt s) g = good-answered p _ _ _ g (λ e. good-fields p (withSalt s p .salt) (p .personal) (p .«last_node») g)
+good-after p (personal s) g = good-answered p _ _ _ g (λ e. good-fields p (p .salt) (withPersonal s p .personal) (p .«last_node») g)
 good-after p (fanout n) g = good-answered p _ _ _ g (λ e. good-number fanout-at n p g refl refl)
 good-after p (max-depth n) g = good-answered p _ _ _ g (λ e. good-number max-depth-at n p g refl refl)
 good-after p (max-leaf-length n) g = good-answered p _ _ _ g (λ e. good-number max-leaf-length-at n p g refl refl)

@@ -4,7 +4,7 @@
 -- Assumes nothing.
 use mathlib.Core.Path.{_≡_, refl, sym, ap, _∙_}
 use mathlib.Core.Bool.{Bool, true, false, false≢true}
-use mathlib.Core.List.{List, [], _∷_, map}
+use mathlib.Core.List.{List, [], _∷_, map, foldl}
 use mathlib.Core.Option.{Option, none, some}
 use Prim.Native.Nat.{ℕ, zero, suc, _+_, _≤_}
 use native.Mathlib.Omega.{arith}
@@ -14,16 +14,17 @@ use lib.ListN.{length, replicate, length-append}
 use Rattle.definitions.specs.Family.{BLAKE2b}
 use Rattle.definitions.specs.Hash.{keyed}
 use Rattle.numbers.specs.Numbers.{limit}
-use Rattle.blake2b.specs.Params.{inRange, front, keyOf, Clean}
+use Rattle.blake2b.specs.Params.{defaults, inRange, front, keyOf, Clean, Setting, afterSetting}
 use Rattle.blake2b.specs.State.{pushed, fresh}
 use Rattle.blake2b.specs.State as state
 use Rattle.blake2b.specs.Row as row
 use Rattle.blake2b.specs.declared.params.Params.{Params}
 use Rattle.blake2b.specs.declared.state.State.{State}
 use Rattle.blake2b.specs.declared.state.StateAnswer.{StateAnswer}
+use Rattle.blake2b.proofs.Cleaned.{good-defaults, settings-good}
 use Rattle.blake2b.proofs.Pushes.{front-short, sound-fresh}
 use Rattle.blake2b.proofs.Rows.{pushed-none, front-keyed, range-reached, says-digest, says-count, updated-accepted, updated-refused}
-use Rattle.bank.specs.Rules.{Call, Answer, Reply, Kind, numbered, every, answers, after}
+use Rattle.bank.specs.Rules.{opening, Call, on, Reply, numbered, every, answers, after}
 use Rattle.bank.specs.Table.{Row, rowUpdated, rowDigested, rowCounted, isRow, updatedAt, digestedAt, countedAt, table}
 use Rattle.bank.specs.Slots.{closedSlot, slotGood, slotUpdated, slotDigested, slotCounted, slots, slot-limit, batch-limit, emptyBank}
 use Rattle.bank.specs.declared.slot.Slot.{Slot}
@@ -186,6 +187,10 @@ all-good (x ∷ xs) v = rw (is-good x (v .0)) (all-good xs (v .1))
 
 pub always-in-range : (n most : ℕ) (cs : List Call) → All Made cs → every slotGood (after slots n most (replicate n closedSlot) cs) ≡ true
 always-in-range n most cs made = rw (bank-of-table n most cs made) (all-good (after table n most (replicate n none) cs) (rows-reached n most cs made))
+
+-- parameters that setters made from the defaults are such as `history` asks for, whatever they refused on the way
+pub made-by-setters : (k : ℕ) (ss : List Setting) → Made (on k (opening (foldl afterSetting defaults ss)))
+made-by-setters k ss = settings-good ss defaults good-defaults .clean
 
 -- the bank of sixteen
 pub bank-history : (cs : List Call) → All Made cs

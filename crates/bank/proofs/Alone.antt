@@ -1,6 +1,6 @@
 -- One slot by itself: what its own calls answer does not depend on the other slots. Drop from a history the refused batches and the calls on
--- other slots, keep of each accepted batch the slot's own records, and its calls answer the same. Over any kind of slots that are all in
--- range, any number of them and any limit of records. Assumes nothing.
+-- other slots, keep of each accepted batch the slot's own records, and its calls answer the same. Over any kind of slots that can't leave
+-- their ranges, as a table's rows can't, any number of them and any limit of records. Assumes nothing.
 use mathlib.Core.Path.{_≡_, refl, sym, ap, _∙_}
 use mathlib.Core.Bool.{Bool, true, false, cond, _&&_}
 use mathlib.Core.List.{List, [], _∷_}
@@ -9,13 +9,14 @@ use native.Mathlib.Omega.{arith}
 use borrow.Author.Tests.{ltb-true, lt-ltb, le-leb, leb-true, eqb-true, eqb-false, eq-eqb}
 use lib.Dec.{ltb, leb, eqb}
 use lib.ListN.{length, getD, set, take, length-set, length-take}
-use lib.Seq.{getD-set-same}
+use lib.Seq.{getD-set-same, take-length}
 use Rattle.numbers.specs.Numbers.{accepted, slot-number, batch-long, bad-record}
 use Rattle.bank.specs.Rules.{Ask, Call, on, update-many, Answer, Reply, Result, Kind, refusal, every, goodAsk, reply, fed, at, fault, batch, step, answers}
 use Rattle.bank.specs.Apart.{names, ofSlot, answersOn, onlyOn}
 use Rattle.bank.specs.declared.piece.Piece.{Piece}
-use Rattle.bank.proofs.Follows.{either}
+use Rattle.bank.proofs.Cases.{either}
 use Rattle.bank.proofs.Frames.{Steady, refused-leaves, other-kept, other-slot}
+use Rattle.bank.proofs.Records.{no-fault-means, first-accepted, goes-on}
 
 -- the records of a slot are no more than all
 few-of-slot : (k : ℕ) (ps : List Piece) → length (ofSlot k ps) ≤ length ps
@@ -24,10 +25,6 @@ few-of-slot k [] = omega arith
 few-of-slot k (p ∷ ps) =
     let rest = few-of-slot k ps in
     either (λ (l : List Piece). length l ≤ suc (length ps)) (eqb (p .slot) k) (p ∷ ofSlot k ps) (ofSlot k ps) (λ e. omega (arith, rest)) (λ e. omega (arith, rest))
-
-take-all : {A : Type 0} (xs : List A) → take (length xs) xs ≡ xs
-take-all [] = refl
-take-all (x ∷ xs) = ap (λ (ys : List _). x ∷ ys) (take-all xs)
 
 module _ {X : Type 0} (kind : Kind X) (steady : Steady kind) (fine : (x : X) → kind .good x ≡ true) (n : ℕ) where
   all-fine : (xs : List X) → every (kind .good) xs ≡ true
@@ -58,15 +55,6 @@ module _ {X : Type 0} (kind : Kind X) (steady : Steady kind) (fine : (x : X) →
   unfolding fault own-fault
   fault-own xs good k = rw (all-fine xs)
 
-  within : (good : Bool) (k : ℕ) → eqb (own-fault good k) accepted ≡ true → k < n
-  unfolding own-fault
-  within true k e = split (ltb k n) refl
-    where
-      split : (q : Bool) → ltb k n ≡ q → k < n
-      split true h = ltb-true k n h
-      split false h = let z : slot-number ≡ accepted = eqb-true slot-number accepted (rw h at e) in absurd (omega arith)
-  within false k e = let z : bad-record ≡ accepted = eqb-true bad-record accepted e in absurd (omega arith)
-
   module _ (most : ℕ) where
     step-sized : (xs : List X) (c : Call) → Sized (length xs) (step kind n most xs c)
     unfolding step
@@ -85,27 +73,9 @@ module _ {X : Type 0} (kind : Kind X) (steady : Steady kind) (fine : (x : X) →
             → (step kind n most xs (on k ask) .answer ≡ own k (at kind xs k) ask .answer) × (at kind (step kind n most xs (on k ask) .slots) k ≡ own k (at kind xs k) ask .slot)
         split true e = (
           rw (fault-own xs (goodAsk ask) k, e),
-          rw (fault-own xs (goodAsk ask) k, e) (getD-set-same xs k (reply kind (at kind xs k) ask .slot) (kind .closed) (rw l (within (goodAsk ask) k e))),
+          rw (fault-own xs (goodAsk ask) k, e) (getD-set-same xs k (reply kind (at kind xs k) ask .slot) (kind .closed) (rw l (no-fault-means kind n xs (goodAsk ask) k (fault-own xs (goodAsk ask) k ∙ eqb-true (own-fault (goodAsk ask) k) accepted e) .2))),
         )
         split false e = (rw (fault-own xs (goodAsk ask) k, e), rw (fault-own xs (goodAsk ask) k, e))
-
-    -- an accepted batch: its first record was accepted, and so were those behind it
-    first-accepted : (xs ys : List X) (i : ℕ) (p : Piece) (ps : List Piece) (d : List ℕ) → batch kind n xs ys i (p ∷ ps) d .answer .number ≡ accepted
-        → (ltb (p .slot) n ≡ true) × (eqb (fed kind (at kind ys (p .slot)) p d .answer .number) accepted ≡ true)
-    unfolding batch
-    first-accepted xs ys i p ps d z = split (ltb (p .slot) n) (eqb (fed kind (at kind ys (p .slot)) p d .answer .number) accepted) refl refl
-      where
-        split : (q r : Bool) → ltb (p .slot) n ≡ q → eqb (fed kind (at kind ys (p .slot)) p d .answer .number) accepted ≡ r
-            → (ltb (p .slot) n ≡ true) × (eqb (fed kind (at kind ys (p .slot)) p d .answer .number) accepted ≡ true)
-        split true true e h = (e, h)
-        split true false e h = absurd (eqb-false (fed kind (at kind ys (p .slot)) p d .answer .number) accepted h (rw (e, h) at z))
-        split false r e h = let w : slot-number ≡ accepted = rw e at z in absurd (omega arith)
-
-    goes-on : (xs ys : List X) (i : ℕ) (p : Piece) (ps : List Piece) (d : List ℕ) → ltb (p .slot) n ≡ true
-        → eqb (fed kind (at kind ys (p .slot)) p d .answer .number) accepted ≡ true
-        → batch kind n xs ys i (p ∷ ps) d ≡ batch kind n xs (set ys (p .slot) (fed kind (at kind ys (p .slot)) p d .slot)) (suc i) ps d
-    unfolding batch
-    goes-on xs ys i p ps d e h = rw (e, h)
 
     -- of an accepted batch, the records of the slot k by themselves are accepted too, and leave it the same
     abbrev Same : ℕ → Result X → Result X → Type 0
@@ -116,9 +86,9 @@ module _ {X : Type 0} (kind : Kind X) (steady : Steady kind) (fine : (x : X) →
     unfolding ofSlot
     own-records k xs ys us vs i j [] d ly lv e z = unfold batch in (refl, sym e)
     own-records k xs ys us vs i j (p ∷ ps) d ly lv e z =
-        let t = first-accepted xs ys i p ps d z in
+        let t = first-accepted kind n xs ys i p ps d z in
         let r : Reply X = fed kind (at kind ys (p .slot)) p d in
-        let on-xs = goes-on xs ys i p ps d (t .0) (t .1) in
+        let on-xs = goes-on kind n xs ys i p ps d (t .0) (t .1) in
         let there : p .slot < n = ltb-true (p .slot) n (t .0) in
         let zs : List X = set ys (p .slot) (r .slot) in
         let rest : (ws : List X) (m : ℕ) → length ws ≡ n → at kind zs k ≡ at kind ws k → Same k (batch kind n xs zs (suc i) ps d) (batch kind n us ws m (ofSlot k ps) d) =
@@ -129,7 +99,7 @@ module _ {X : Type 0} (kind : Kind X) (steady : Steady kind) (fine : (x : X) →
         let same-slot : p .slot ≡ k = eqb-true (p .slot) k h in
         let same : at kind vs (p .slot) ≡ at kind ys (p .slot) = ap (at kind vs) same-slot ∙ sym e ∙ ap (at kind ys) (sym same-slot) in
         let fed-same : fed kind (at kind vs (p .slot)) p d ≡ r = ap (λ (x : X). fed kind x p d) same in
-        let on-us = goes-on us vs j p (ofSlot k ps) d (t .0) (ap (λ (q : Reply X). eqb (q .answer .number) accepted) fed-same ∙ t .1) ∙ ap (λ (q : Reply X). batch kind n us (set vs (p .slot) (q .slot)) (suc j) (ofSlot k ps) d) fed-same in
+        let on-us = goes-on kind n us vs j p (ofSlot k ps) d (t .0) (ap (λ (q : Reply X). eqb (q .answer .number) accepted) fed-same ∙ t .1) ∙ ap (λ (q : Reply X). batch kind n us (set vs (p .slot) (q .slot)) (suc j) (ofSlot k ps) d) fed-same in
         let at-k : (ws : List X) → length ws ≡ n → at kind (set ws (p .slot) (r .slot)) k ≡ r .slot = λ ws lw. ap (at kind (set ws (p .slot) (r .slot))) (sym same-slot) ∙ getD-set-same ws (p .slot) (r .slot) (kind .closed) (rw lw there) in
         rw on-us (rest (set vs (p .slot) (r .slot)) (suc j) (length-set vs (p .slot) (r .slot) ∙ lv) (at-k ys ly ∙ sym (at-k vs lv))))
         (λ h. rest vs j lv (other-slot kind n ys (p .slot) k (r .slot) h ∙ e)))
@@ -147,7 +117,7 @@ module _ {X : Type 0} (kind : Kind X) (steady : Steady kind) (fine : (x : X) →
             let l = length-take used ps in
             let u = leb-true used most h in
             let fits : length (ofSlot k (take used ps)) ≤ most = omega (arith, few, l, u) in
-            rw (all-fine xs, all-fine ys, h, le-leb (length (ofSlot k (take used ps))) most fits, take-all (ofSlot k (take used ps)))
+            rw (all-fine xs, all-fine ys, h, le-leb (length (ofSlot k (take used ps))) most fits, take-length (ofSlot k (take used ps)))
             (own-records k xs xs ys ys 0 0 (take used ps) d lx ly e (rw (all-fine xs, h) at z) .1)
         split false h = let w : batch-long ≡ accepted = rw (all-fine xs, h) at z in absurd (omega arith)
 

@@ -11,7 +11,10 @@ use Rattle.numbers.specs.Numbers.{accepted, pieceOk}
 use Rattle.blake2b.specs.Params.{inRange, Clean}
 use Rattle.blake2b.specs.declared.params.Params.{Params}
 use Rattle.bank.specs.Rules.{Ask, opening, update, digest, digest-to, count, close, Call, on, update-many, Answer, Reply, Result, Kind, written, placeFault, piece, every, goodAsk, reply, fed, at, fault, batch, step, answers, after}
+use Rattle.bank.specs.Made.{MadeAsk, Made, All}
 use Rattle.bank.specs.declared.piece.Piece.{Piece}
+use Rattle.bank.proofs.Cases.{both, either}
+use Rattle.bank.proofs.Records.{no-fault-means}
 use Rattle.bank.proofs.Replies.{placed}
 
 abbrev pub mapReply : {X Y : Type 0} → (X → Y) → Reply X → Reply Y
@@ -19,23 +22,6 @@ mapReply f r = record { answer = r .answer; slot = f (r .slot) }
 
 abbrev pub mapResult : {X Y : Type 0} → (X → Y) → Result X → Result Y
 mapResult f r = record { answer = r .answer; slots = map f (r .slots) }
-
--- parameters that are handed in are as the setters leave them
-abbrev pub MadeAsk : Ask → Type 0
-MadeAsk (opening p) = Clean p
-MadeAsk (update d) = Unit {0}
-MadeAsk digest = Unit {0}
-MadeAsk (digest-to out) = Unit {0}
-MadeAsk count = Unit {0}
-MadeAsk close = Unit {0}
-
-abbrev pub Made : Call → Type 0
-Made (on k ask) = MadeAsk ask
-Made (update-many ps used d) = Unit {0}
-
-abbrev pub All : {A : Type 0} → (A → Type 0) → List A → Type 0
-All P [] = Unit {0}
-All P (x ∷ xs) = P x × All P xs
 
 pub all-set : {A : Type 0} (P : A → Type 0) (xs : List A) (k : ℕ) (v : A) → All P xs → P v → All P (set xs k v)
 all-set P [] k v a b = tt
@@ -63,15 +49,6 @@ pub record Follows {X Y : Type 0} (a : Kind X) (b : Kind Y) (f : X → Y) (Valid
   pub closed-valid : Valid (a .closed)
   pub opened-valid : (p : Params) → Clean p → inRange p ≡ true → Valid (a .opened p)
   pub updated-valid : (x : X) → Valid x → a .isOpen x ≡ true → (d : List ℕ) → Valid (a .updated x d .slot)
-
--- of two, whichever is chosen
-both : {A B : Type 0} (g : A → B) (q : Bool) {u v : B} {s t : A} → (q ≡ true → u ≡ g s) → (q ≡ false → v ≡ g t) → cond q u v ≡ g (cond q s t)
-both g true h k = h refl
-both g false h k = k refl
-
-pub either : {A : Type 0} (P : A → Type 0) (q : Bool) (s t : A) → (q ≡ true → P s) → (q ≡ false → P t) → P (cond q s t)
-either P true s t h k = h refl
-either P false s t h k = k refl
 
 module _ {X Y : Type 0} (a : Kind X) (b : Kind Y) (f : X → Y) (Valid : X → Type 0) (F : Follows a b f Valid) where
   -- one slot
@@ -137,12 +114,6 @@ module _ {X Y : Type 0} (a : Kind X) (b : Kind Y) (f : X → Y) (Valid : X → T
     unfolding fault
     fault-follows xs valid good k = rw (every-follows xs valid)
 
-    -- where there is no fault, parameters handed in are in range
-    no-fault-good : (xs : List X) (good : Bool) (k : ℕ) → eqb (fault a n xs good k) accepted ≡ true → good ≡ true
-    unfolding fault
-    no-fault-good xs true k e = refl
-    no-fault-good xs false k e = rw and-false at e
-
     batch-follows : (xs ys : List X) (i : ℕ) (ps : List Piece) (d : List ℕ) → All Valid ys → batch b n (map f xs) (map f ys) i ps d ≡ mapResult f (batch a n xs ys i ps d)
     unfolding batch
     batch-follows xs ys i [] d valid = refl
@@ -178,7 +149,7 @@ module _ {X Y : Type 0} (a : Kind X) (b : Kind Y) (f : X → Y) (Valid : X → T
       unfolding step AllKept
       step-valid xs (on k ask) valid made =
           either AllKept (eqb (fault a n xs (goodAsk ask) k) accepted) _ _
-          (λ e. all-set Valid xs k (reply a (at a xs k) ask .slot) valid (reply-valid (at a xs k) (at-valid xs k valid) ask made (no-fault-good xs (goodAsk ask) k e)))
+          (λ e. all-set Valid xs k (reply a (at a xs k) ask .slot) valid (reply-valid (at a xs k) (at-valid xs k valid) ask made (no-fault-means a n xs (goodAsk ask) k (eqb-true (fault a n xs (goodAsk ask) k) accepted e) .1)))
           (λ e. valid)
       step-valid xs (update-many ps used d) valid made =
           either AllKept (every (a .good) xs) _ _ (λ e. either AllKept (leb used most) _ _ (λ h. batch-valid xs xs 0 (take used ps) d valid valid) (λ h. valid)) (λ e. valid)

@@ -7,17 +7,21 @@ use Prim.Native.Nat.{ℕ, zero, suc}
 use borrow.Author.Tests.{eqb-true, eqb-false}
 use lib.Dec.{ltb, leb, eqb}
 use lib.ListN.{length, getD, set, take, length-set}
-use lib.Seq.{getD-set-other}
+use lib.Seq.{set-getD, getD-set-other}
 use Rattle.numbers.specs.Numbers.{accepted, pieceOk}
 use Rattle.bank.specs.Rules.{Ask, opening, update, digest, digest-to, count, close, Call, on, update-many, Reply, Result, Kind, every, goodAsk, reply, fed, at, fault, batch, step, after}
 use Rattle.bank.specs.Apart.{among, names, Spared}
 use Rattle.bank.specs.declared.piece.Piece.{Piece}
-use Rattle.bank.proofs.Follows.{either}
+use Rattle.bank.proofs.Cases.{either}
 
-set-same : {X : Type 0} (xs : List X) (k : ℕ) (d : X) → set xs k (getD xs k d) ≡ xs
-set-same [] k d = refl
-set-same (x ∷ xs) zero d = refl
-set-same (x ∷ xs) (suc k) d = ap (λ (ys : List _). x ∷ ys) (set-same xs k d)
+-- a digest or a count
+abbrev pub Asks : Ask → Type 0
+Asks (opening p) = ⊥
+Asks (update d) = ⊥
+Asks digest = Unit {0}
+Asks (digest-to out) = Unit {0}
+Asks count = Unit {0}
+Asks close = ⊥
 
 module _ {X : Type 0} (kind : Kind X) where
   -- an open slot that refuses an update is as it was
@@ -38,9 +42,12 @@ module _ {X : Type 0} (kind : Kind X) where
   reply-left steady x close = either (Left x) (kind .isOpen x) _ _ (λ e h. absurd (h refl)) (λ e h. refl)
 
   module _ (n : ℕ) where
-    -- what a result keeps of the slots: all where refused; the slot k
+    -- what a result keeps of the slots: all where refused; all; the slot k
     abbrev AllLeft : List X → Result X → Type 0
     AllLeft xs r = (r .answer .number ≡ accepted → ⊥) → r .slots ≡ xs
+
+    abbrev Same : List X → Result X → Type 0
+    Same xs r = r .slots ≡ xs
 
     abbrev AtLeft : ℕ → X → Result X → Type 0
     AtLeft k x r = at kind (r .slots) k ≡ x
@@ -82,9 +89,16 @@ module _ {X : Type 0} (kind : Kind X) where
       unfolding step
       refused-leaves steady xs (on k ask) =
           either (AllLeft xs) (eqb (fault kind n xs (goodAsk ask) k) accepted) _ _
-          (λ e h. ap (set xs k) (reply-left steady (at kind xs k) ask h) ∙ set-same xs k (kind .closed)) (λ e h. refl)
+          (λ e h. ap (set xs k) (reply-left steady (at kind xs k) ask h) ∙ set-getD xs k (kind .closed)) (λ e h. refl)
       refused-leaves steady xs (update-many ps used d) =
           either (AllLeft xs) (every (kind .good) xs) _ _ (λ e. either (AllLeft xs) (leb used most) _ _ (λ h. batch-left xs xs 0 (take used ps) d) (λ h z. refl)) (λ e z. refl)
+
+      -- a digest and a count leave every slot, whatever they answer
+      pub asking-leaves : (xs : List X) (k : ℕ) (ask : Ask) → Asks ask → step kind n most xs (on k ask) .slots ≡ xs
+      unfolding step reply
+      asking-leaves xs k digest asks = either (Same xs) (eqb (fault kind n xs true k) accepted) _ _ (λ e. set-getD xs k (kind .closed)) (λ e. refl)
+      asking-leaves xs k (digest-to out) asks = either (Same xs) (eqb (fault kind n xs true k) accepted) _ _ (λ e. set-getD xs k (kind .closed)) (λ e. refl)
+      asking-leaves xs k count asks = either (Same xs) (eqb (fault kind n xs true k) accepted) _ _ (λ e. set-getD xs k (kind .closed)) (λ e. refl)
 
       -- any call leaves a slot that it does not name
       pub other-kept : (xs : List X) (c : Call) (k : ℕ) → names k c ≡ false → AtLeft k (at kind xs k) (step kind n most xs c)

@@ -1,7 +1,8 @@
--- The history of a bank: to any opens, updates, batches, digests, counts and closes, in any order, it answers as the table of specs/Table.antt
--- would, over any number of slots and any limit of records. The chain from the compiled functions: each public function of src/bank.rt
--- promises `told`, which is a step of specs/Rules.antt on the bank's own slots at 16 and 16; `history` is about a list of these same steps.
--- Assumes nothing.
+-- The history of a bank: to any opens with parameters that setters made (specs/Made.antt), updates, batches, digests, counts and closes, in any
+-- order, it answers as the table of specs/Table.antt would, over any number of slots and any limit of records. The chain from the compiled
+-- functions: `new` promises the empty bank, and each other public function of src/bank.rt promises `told`, a step of specs/Rules.antt on the
+-- bank's own slots at 16 and 16; a digest or a count hands no bank back, and leaves the slots (Isolation's `asking-leaves-bank`); so a program's
+-- calls on one bank are a list of these same steps, which is what `history` is about. Assumes nothing.
 use mathlib.Core.Path.{_≡_, refl, sym, ap, _∙_}
 use mathlib.Core.Bool.{Bool, true, false, false≢true}
 use mathlib.Core.List.{List, [], _∷_, map, foldl}
@@ -25,10 +26,12 @@ use Rattle.blake2b.proofs.Cleaned.{good-defaults, settings-good}
 use Rattle.blake2b.proofs.Pushes.{front-short, sound-fresh}
 use Rattle.blake2b.proofs.Rows.{pushed-none, front-keyed, range-reached, says-digest, says-count, updated-accepted, updated-refused}
 use Rattle.bank.specs.Rules.{opening, Call, on, Reply, numbered, every, answers, after}
+use Rattle.bank.specs.Made.{All, Made}
 use Rattle.bank.specs.Table.{Row, rowUpdated, rowDigested, rowCounted, isRow, updatedAt, digestedAt, countedAt, table}
 use Rattle.bank.specs.Slots.{closedSlot, slotGood, slotUpdated, slotDigested, slotCounted, slots, slot-limit, batch-limit, emptyBank}
 use Rattle.bank.specs.declared.slot.Slot.{Slot}
-use Rattle.bank.proofs.Follows.{Follows, mapReply, All, Made, either, answers-follow, after-follows, after-valid}
+use Rattle.bank.proofs.Cases.{either}
+use Rattle.bank.proofs.Follows.{Follows, mapReply, answers-follow, after-follows, after-valid}
 
 -- the slot that a row stands for
 abbrev pub slotOf : Option Row → Slot

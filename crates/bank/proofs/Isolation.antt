@@ -14,14 +14,15 @@ use Rattle.blake2b.specs.Params.{keyOf}
 use Rattle.blake2b.specs.State.{total, stateInRange, updated}
 use Rattle.blake2b.specs.declared.state.State.{State}
 use Rattle.blake2b.specs.declared.state.StateAnswer.{StateAnswer}
-use Rattle.bank.specs.Rules.{Call, on, update-many, Answer, Reply, Kind, at, answers, after}
+use Rattle.bank.specs.Rules.{Ask, Call, on, update-many, Answer, Reply, Kind, at, answers, after}
+use Rattle.bank.specs.Made.{All, Made}
 use Rattle.bank.specs.Apart.{Spared, ofSlot, answersOn, onlyOn}
 use Rattle.bank.specs.Table.{Row, rowUpdated, isRow, updatedAt, table}
-use Rattle.bank.specs.Slots.{closedSlot, slotUpdated, slots, told}
+use Rattle.bank.specs.Slots.{closedSlot, slotUpdated, slots, slot-limit, batch-limit, told}
 use Rattle.bank.specs.declared.bank.Bank.{Bank}
 use Rattle.bank.specs.declared.slot.Slot.{Slot}
-use Rattle.bank.proofs.Follows.{All, Made, MadeAsk, either}
-use Rattle.bank.proofs.Frames.{Steady, refused-leaves, unnamed-kept}
+use Rattle.bank.proofs.Cases.{either}
+use Rattle.bank.proofs.Frames.{Steady, Asks, refused-leaves, asking-leaves, unnamed-kept}
 use Rattle.bank.proofs.Alone.{alone}
 use Rattle.bank.proofs.History.{history}
 
@@ -53,7 +54,11 @@ table-steady (some r) d e h = row-left r d h
 
 -- a refused call leaves every slot of the bank as it was
 pub refused-call-leaves : (b : Bank) (c : Call) → (told b c .answer .number ≡ accepted → ⊥) → told b c .slots ≡ b .slots
-refused-call-leaves b c h = refused-leaves slots 16 16 slots-steady (b .slots) c h
+refused-call-leaves b c h = refused-leaves slots slot-limit batch-limit slots-steady (b .slots) c h
+
+-- and so does a digest or a count, so that the next call on the same bank is a step on the slots that it left
+pub asking-leaves-bank : (b : Bank) (k : ℕ) (ask : Ask) → Asks ask → told b (on k ask) .slots ≡ b .slots
+asking-leaves-bank b k ask asks = asking-leaves slots slot-limit batch-limit (b .slots) k ask asks
 
 module _ (n most k : ℕ) (cs : List Call) where
   -- a slot that no accepted call names keeps its record

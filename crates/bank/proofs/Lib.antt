@@ -1,9 +1,11 @@
 pub mod Alone
 pub mod Batches
+pub mod Cases
 pub mod Follows
 pub mod Frames
 pub mod History
 pub mod Isolation
+pub mod Records
 pub mod Replies
 pub mod Steps
 pub mod Unique

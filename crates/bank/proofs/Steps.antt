@@ -24,6 +24,7 @@ use Rattle.bank.specs.declared.bank.BankAnswer.{BankAnswer}
 use Rattle.bank.specs.declared.piece.Piece.{Piece}
 use Rattle.bank.specs.declared.slot.Slot.{Slot}
 use Rattle.bank.specs.declared.slot.SlotAnswer.{SlotAnswer}
+use Rattle.bank.proofs.Records.{no-fault-means}
 
 -- an element that is there, whatever stands for one that is not
 pub any-default : {X : Type 0} (xs : List X) (k : ℕ) (d e : X) → k < length xs → getD xs k d ≡ getD xs k e
@@ -68,19 +69,12 @@ module _ (xs : List Slot) (good : Bool) (k : ℕ) {all : Bool} (e : all ≡ ever
   no-fault h g l = rw (← e, not-false all h, g, lt-ltb k slot-limit l)
 
 -- what no fault means
-pub within-slots : (xs : List Slot) (good : Bool) (k : ℕ) {f : ℕ} → f ≡ fault slots slot-limit xs good k → f ≡ accepted → k < slot-limit
-unfolding fault
-within-slots xs good k {f} e z = split (every (slots .good) xs && good) (ltb k slot-limit) refl refl
-  where
-    split : (a b : Bool) → every (slots .good) xs && good ≡ a → ltb k slot-limit ≡ b → k < slot-limit
-    split true true p q = ltb-true k slot-limit q
-    split true false p q = let z2 : slot-number ≡ accepted = sym (rw (p, q) at e) ∙ z in absurd (omega arith)
-    split false b p q = let z2 : bad-record ≡ accepted = sym (rw p at e) ∙ z in absurd (omega arith)
+module _ (xs : List Slot) (good : Bool) (k : ℕ) {f : ℕ} (e : f ≡ fault slots slot-limit xs good k) (z : f ≡ accepted) where
+  pub within-slots : k < slot-limit
+  within-slots = no-fault-means slots slot-limit xs good k (sym e ∙ z) .2
 
-pub good-params : (xs : List Slot) (good : Bool) (k : ℕ) {f : ℕ} → f ≡ fault slots slot-limit xs good k → f ≡ accepted → good ≡ true
-unfolding fault
-good-params xs true k e z = refl
-good-params xs false k e z = let z2 : bad-record ≡ accepted = sym (rw and-false at e) ∙ z in absurd (omega arith)
+  pub good-params : good ≡ true
+  good-params = no-fault-means slots slot-limit xs good k (sym e ∙ z) .1
 
 refusal-number : (ask : Ask) (n : ℕ) → refusal ask n .number ≡ n
 refusal-number (opening p) n = refl

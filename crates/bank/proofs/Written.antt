@@ -75,7 +75,7 @@ module _ (b : Bank) (k : ℕ) where
     pub output-written : h .number ≡ accepted → {a : LengthAnswer} {to : List ℕ}
         → a ≡ writtenAnswered (h .hash) (length (digestOf (h .hash))) (length out) → to ≡ writtenOver (h .hash) (digestOf (h .hash)) out
         → (a ≡ lengthAnswer (told b (on k (digest-to out)) .answer)) × (to ≡ told b (on k (digest-to out)) .answer .bytes)
-    unfolding written writtenAnswered writtenOver mayWrite hashInRange
+    unfolding written writtenAnswered writtenOver mayWrite hashInRange over
     output-written z {a} {to} f g =
         let d : List ℕ = told b (on k digest) .answer .bytes in
         let s : isDigestLength (length d) ≡ true = told-sized (sym number-is ∙ z) in

@@ -2,3 +2,4 @@ pub mod Rules
 pub mod Table
 pub mod Slots
 pub mod Apart
+pub mod Made

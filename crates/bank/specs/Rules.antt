@@ -1,11 +1,10 @@
 -- Document 01's rules of slots: what is asked of a bank and what it answers, over any number of slots, any limit of records in a batch and
 -- whatever a slot holds. Refusals stand in document 01's order. Assumes nothing.
 use mathlib.Core.Bool.{Bool, true, cond, _&&_}
-use mathlib.Core.List.{List, [], _∷_, map}
+use mathlib.Core.List.{List, [], _∷_, _++_}
 use Prim.Native.Nat.{ℕ, suc}
 use lib.Dec.{ltb, leb, eqb}
 use lib.ListN.{length, getD, set, take, drop}
-use Rattle.laws.specs.Buffer.{over}
 use Rattle.numbers.specs.Numbers.{accepted, slot-number, slot-closed, piece-outside, batch-long, output-short, slot-open, bad-record, pieceOk}
 use Rattle.blake2b.specs.Params.{inRange}
 use Rattle.blake2b.specs.declared.params.Params.{Params}
@@ -63,7 +62,7 @@ unfoldable pub written : Answer → List ℕ → Answer
 written a out =
     cond (eqb (a .number) accepted)
     (cond (leb (length (a .bytes)) (length out))
-    (record { number = accepted; index = 0; value = length (a .bytes); bytes = over (a .bytes) out })
+    (record { number = accepted; index = 0; value = length (a .bytes); bytes = a .bytes ++ drop (length (a .bytes)) out })
     (refusal (digest-to out) output-short))
     (refusal (digest-to out) (a .number))
 

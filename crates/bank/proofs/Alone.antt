@@ -2,21 +2,21 @@
 -- other slots, keep of each accepted batch the slot's own records, and its calls answer the same. Over any kind of slots that can't leave
 -- their ranges, as a table's rows can't, any number of them and any limit of records. Assumes nothing.
 use mathlib.Core.Path.{_≡_, refl, sym, ap, _∙_}
-use mathlib.Core.Bool.{Bool, true, false, cond, _&&_}
+use mathlib.Core.Bool.{Bool, true, false, cond}
 use mathlib.Core.List.{List, [], _∷_}
-use Prim.Native.Nat.{ℕ, zero, suc, _<_, _≤_}
+use Prim.Native.Nat.{ℕ, suc, _<_, _≤_}
 use native.Mathlib.Omega.{arith}
-use borrow.Author.Tests.{ltb-true, lt-ltb, le-leb, leb-true, eqb-true, eqb-false, eq-eqb}
+use borrow.Author.Tests.{ltb-true, le-leb, leb-true, eqb-true, eqb-false}
 use lib.Dec.{ltb, leb, eqb}
-use lib.ListN.{length, getD, set, take, length-set, length-take}
+use lib.ListN.{length, set, take, length-set, length-take}
 use lib.Seq.{getD-set-same, take-length}
 use Rattle.numbers.specs.Numbers.{accepted, slot-number, batch-long, bad-record}
 use Rattle.bank.specs.Rules.{Ask, Call, on, update-many, Answer, Reply, Result, Kind, refusal, every, goodAsk, reply, fed, at, fault, batch, step, answers}
-use Rattle.bank.specs.Apart.{names, ofSlot, answersOn, onlyOn}
+use Rattle.bank.specs.Apart.{ofSlot, answersOn, onlyOn}
 use Rattle.bank.specs.declared.piece.Piece.{Piece}
 use Rattle.bank.proofs.Cases.{either}
 use Rattle.bank.proofs.Frames.{Steady, refused-leaves, other-kept, other-slot}
-use Rattle.bank.proofs.Records.{no-fault-means, first-accepted, goes-on}
+use Rattle.bank.proofs.Records.{no-fault-means, by-first, first-accepted, goes-on}
 
 -- the records of a slot are no more than all
 few-of-slot : (k : ℕ) (ps : List Piece) → length (ofSlot k ps) ≤ length ps
@@ -37,12 +37,10 @@ module _ {X : Type 0} (kind : Kind X) (steady : Steady kind) (fine : (x : X) →
   Sized m r = length (r .slots) ≡ m
 
   batch-sized : (m : ℕ) (xs ys : List X) (i : ℕ) (ps : List Piece) (d : List ℕ) → length xs ≡ m → length ys ≡ m → Sized m (batch kind n xs ys i ps d)
-  unfolding batch
-  batch-sized m xs ys i [] d e f = f
+  batch-sized m xs ys i [] d e f = unfold batch in f
   batch-sized m xs ys i (p ∷ ps) d e f =
       let r : Reply X = fed kind (at kind ys (p .slot)) p d in
-      let rest = batch-sized m xs (set ys (p .slot) (r .slot)) (suc i) ps d e (length-set ys (p .slot) (r .slot) ∙ f) in
-      either (Sized m) (ltb (p .slot) n) _ _ (λ g. either (Sized m) (eqb (r .answer .number) accepted) _ _ (λ h. rest) (λ h. e)) (λ g. e)
+      by-first kind n xs ys i p ps d (Sized m) (batch-sized m xs (set ys (p .slot) (r .slot)) (suc i) ps d e (length-set ys (p .slot) (r .slot) ∙ f)) (λ q. e)
 
   -- what the slot k makes of its own call, by itself
   own-fault : Bool → ℕ → ℕ

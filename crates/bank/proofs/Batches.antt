@@ -1,19 +1,18 @@
 -- A batch, record by record: the records from i on, over the slots that those in front of them left.
 -- Assumes nothing.
-use mathlib.Core.Path.{_≡_, refl, sym, ap, _∙_}
+use mathlib.Core.Path.{_≡_, ap, _∙_}
 use mathlib.Core.Bool.{Bool, true, false, not}
-use mathlib.Core.List.{List, []}
-use Prim.Native.Nat.{ℕ, suc, _+_, _<_, _≤_}
+use mathlib.Core.List.{List}
+use Prim.Native.Nat.{ℕ, _+_, _<_, _≤_}
 use native.Mathlib.Numerals.{add-one}
 use native.Mathlib.Omega.{arith}
 use borrow.Author.Tests.{not-true, not-false, lt-ltb, le-ltb, le-leb, lt-leb, eq-eqb, ne-eqb}
 use lib.ListN.{length, getD, set, length-set}
 use lib.Seq.{slice, slice-cons, slice-empty}
 use Rattle.numbers.specs.Numbers.{accepted, slot-number, batch-long, bad-record}
-use Rattle.bank.specs.Rules.{Result, update-many, fed, every, at, batch, step}
+use Rattle.bank.specs.Rules.{update-many, fed, every, at, batch, step}
 use Rattle.bank.specs.Slots.{slots, slot-limit, batch-limit, told, batchAnswer, slotAnswer}
 use Rattle.bank.specs.declared.bank.Bank.{Bank}
-use Rattle.bank.specs.declared.bank.BatchAnswer.{BatchAnswer}
 use Rattle.bank.specs.declared.piece.Piece.{Piece}
 use Rattle.bank.specs.declared.slot.Slot.{Slot}
 use Rattle.bank.specs.declared.slot.SlotAnswer.{SlotAnswer}

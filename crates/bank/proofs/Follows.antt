@@ -1,7 +1,7 @@
 -- One kind of slots follows another through a function of what they hold: then replies, batches, steps and whole histories do, and what is
 -- valid stays valid. Over any number of slots and any limit of records. Assumes nothing.
-use mathlib.Core.Path.{_≡_, refl, sym, ap, _∙_}
-use mathlib.Core.Bool.{Bool, true, false, cond, _&&_, and-false}
+use mathlib.Core.Path.{_≡_, refl, ap}
+use mathlib.Core.Bool.{Bool, true, cond, _&&_}
 use mathlib.Core.List.{List, [], _∷_, map}
 use Prim.Native.Nat.{ℕ, zero, suc}
 use borrow.Author.Tests.{eqb-true}
@@ -14,7 +14,7 @@ use Rattle.bank.specs.Rules.{Ask, opening, update, digest, digest-to, co
 use Rattle.bank.specs.Made.{MadeAsk, Made, All}
 use Rattle.bank.specs.declared.piece.Piece.{Piece}
 use Rattle.bank.proofs.Cases.{both, either}
-use Rattle.bank.proofs.Records.{no-fault-means}
+use Rattle.bank.proofs.Records.{no-fault-means, by-first}
 use Rattle.bank.proofs.Replies.{placed}
 
 abbrev pub mapReply : {X Y : Type 0} → (X → Y) → Reply X → Reply Y
@@ -127,13 +127,13 @@ module _ {X Y : Type 0} (a : Kind X) (b : Kind Y) (f : X → Y) (Valid : X → T
         (λ e. both (mapResult f) (eqb (r .answer .number) accepted) (λ h. rw (← map-set f ys k (r .slot)) rest) (λ h. refl)) (λ e. refl))
 
     batch-valid : (xs ys : List X) (i : ℕ) (ps : List Piece) (d : List ℕ) → All Valid xs → All Valid ys → AllKept (batch a n xs ys i ps d)
-    unfolding batch AllKept
-    batch-valid xs ys i [] d old valid = valid
+    unfolding AllKept
+    batch-valid xs ys i [] d old valid = unfold batch in valid
     batch-valid xs ys i (p ∷ ps) d old valid =
         let k : ℕ = p .slot in
         let r : Reply X = fed a (at a ys k) p d in
-        let rest = batch-valid xs (set ys k (r .slot)) (suc i) ps d old (all-set Valid ys k (r .slot) valid (fed-valid (at a ys k) (at-valid ys k valid) p d)) in
-        either AllKept (ltb k n) _ _ (λ e. either AllKept (eqb (r .answer .number) accepted) _ _ (λ h. rest) (λ h. old)) (λ e. old)
+        by-first a n xs ys i p ps d AllKept
+        (batch-valid xs (set ys k (r .slot)) (suc i) ps d old (all-set Valid ys k (r .slot) valid (fed-valid (at a ys k) (at-valid ys k valid) p d))) (λ m. old)
 
     module _ (most : ℕ) where
       step-follows : (xs : List X) (c : Call) → All Valid xs → Made c → step b n most (map f xs) c ≡ mapResult f (step a n most xs c)

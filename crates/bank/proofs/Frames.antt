@@ -3,16 +3,17 @@
 use mathlib.Core.Path.{_≡_, refl, sym, ap, _∙_}
 use mathlib.Core.Bool.{Bool, true, false, _||_, true≢false}
 use mathlib.Core.List.{List, [], _∷_}
-use Prim.Native.Nat.{ℕ, zero, suc}
+use Prim.Native.Nat.{ℕ, suc}
 use borrow.Author.Tests.{eqb-true, eqb-false}
-use lib.Dec.{ltb, leb, eqb}
-use lib.ListN.{length, getD, set, take, length-set}
+use lib.Dec.{leb, eqb}
+use lib.ListN.{set, take}
 use lib.Seq.{set-getD, getD-set-other}
-use Rattle.numbers.specs.Numbers.{accepted, pieceOk}
+use Rattle.numbers.specs.Numbers.{accepted}
 use Rattle.bank.specs.Rules.{Ask, opening, update, digest, digest-to, count, close, Call, on, update-many, Reply, Result, Kind, every, goodAsk, reply, fed, at, fault, batch, step, after}
 use Rattle.bank.specs.Apart.{among, names, Spared}
 use Rattle.bank.specs.declared.piece.Piece.{Piece}
 use Rattle.bank.proofs.Cases.{either}
+use Rattle.bank.proofs.Records.{by-first}
 
 -- a digest or a count
 abbrev pub Asks : Ask → Type 0
@@ -53,12 +54,9 @@ module _ {X : Type 0} (kind : Kind X) where
     AtLeft k x r = at kind (r .slots) k ≡ x
 
     batch-left : (xs ys : List X) (i : ℕ) (ps : List Piece) (d : List ℕ) → AllLeft xs (batch kind n xs ys i ps d)
-    unfolding batch
-    batch-left xs ys i [] d = λ h. absurd (h refl)
+    batch-left xs ys i [] d = unfold batch in λ h. absurd (h refl)
     batch-left xs ys i (p ∷ ps) d =
-        let r : Reply X = fed kind (at kind ys (p .slot)) p d in
-        let rest = batch-left xs (set ys (p .slot) (r .slot)) (suc i) ps d in
-        either (AllLeft xs) (ltb (p .slot) n) _ _ (λ e. either (AllLeft xs) (eqb (r .answer .number) accepted) _ _ (λ h. rest) (λ h z. refl)) (λ e z. refl)
+        by-first kind n xs ys i p ps d (AllLeft xs) (batch-left xs (set ys (p .slot) (fed kind (at kind ys (p .slot)) p d .slot)) (suc i) ps d) (λ m z. refl)
 
     -- a record for another slot, and those behind it
     not-first : (p : Piece) (ps : List Piece) (k : ℕ) → among k (p ∷ ps) ≡ false → (eqb (p .slot) k ≡ false) × (among k ps ≡ false)
@@ -74,14 +72,12 @@ module _ {X : Type 0} (kind : Kind X) where
 
     batch-other : (xs ys : List X) (i : ℕ) (ps : List Piece) (d : List ℕ) (k : ℕ) → among k ps ≡ false → at kind xs k ≡ at kind ys k
         → AtLeft k (at kind ys k) (batch kind n xs ys i ps d)
-    unfolding batch
-    batch-other xs ys i [] d k e f = refl
+    batch-other xs ys i [] d k e f = unfold batch in refl
     batch-other xs ys i (p ∷ ps) d k e f =
         let r : Reply X = fed kind (at kind ys (p .slot)) p d in
         let o = other-slot ys (p .slot) k (r .slot) (not-first p ps k e .0) in
-        let rest = batch-other xs (set ys (p .slot) (r .slot)) (suc i) ps d k (not-first p ps k e .1) (f ∙ sym o) in
-        either (AtLeft k (at kind ys k)) (ltb (p .slot) n) _ _
-        (λ g. either (AtLeft k (at kind ys k)) (eqb (r .answer .number) accepted) _ _ (λ h. rest ∙ o) (λ h. f)) (λ g. f)
+        by-first kind n xs ys i p ps d (AtLeft k (at kind ys k))
+        (batch-other xs (set ys (p .slot) (r .slot)) (suc i) ps d k (not-first p ps k e .1) (f ∙ sym o) ∙ o) (λ m. f)
 
     module _ (most : ℕ) where
       -- a refused call leaves every slot

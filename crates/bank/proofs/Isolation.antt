@@ -1,7 +1,7 @@
 -- Nothing that is done to another diver's slot shows in this one: the theorems of Frames and Alone, of the bank's records and of the table's
 -- rows. Over any number of slots and any limit of records. Assumes nothing.
-use mathlib.Core.Path.{_≡_, refl, sym, ap, _∙_}
-use mathlib.Core.Bool.{Bool, true, false, false≢true}
+use mathlib.Core.Path.{_≡_, refl, sym}
+use mathlib.Core.Bool.{true, false, false≢true}
 use mathlib.Core.List.{List, [], _∷_}
 use mathlib.Core.Option.{Option, none, some}
 use Prim.Native.Nat.{ℕ, _+_}
@@ -14,7 +14,7 @@ use Rattle.blake2b.specs.Params.{keyOf}
 use Rattle.blake2b.specs.State.{total, stateInRange, updated}
 use Rattle.blake2b.specs.declared.state.State.{State}
 use Rattle.blake2b.specs.declared.state.StateAnswer.{StateAnswer}
-use Rattle.bank.specs.Rules.{Ask, Call, on, update-many, Answer, Reply, Kind, at, answers, after}
+use Rattle.bank.specs.Rules.{Ask, Call, on, update-many, Answer, Reply, at, answers, after}
 use Rattle.bank.specs.Made.{All, Made}
 use Rattle.bank.specs.Apart.{Spared, ofSlot, answersOn, onlyOn}
 use Rattle.bank.specs.Table.{Row, rowUpdated, isRow, updatedAt, table}

@@ -1,17 +1,18 @@
 -- What is in front of a slot's own answer: no fault means in range; and the records of a batch, one by one: the first bad one decides.
 -- Over any kind of slots, any number of them and any limit of records. Assumes nothing.
 use mathlib.Core.Path.{_≡_, refl, sym, ap, _∙_}
-use mathlib.Core.Bool.{Bool, true, false, cond, _&&_}
+use mathlib.Core.Bool.{Bool, true, false, cond}
 use mathlib.Core.List.{List, [], _∷_}
-use Prim.Native.Nat.{ℕ, zero, suc, _+_, _<_}
+use Prim.Native.Nat.{ℕ, suc, _+_, _<_}
 use native.Mathlib.Nat.{add-zero}
 use native.Mathlib.Omega.{arith}
-use borrow.Author.Tests.{ltb-true, eqb-true, eqb-false}
+use borrow.Author.Tests.{ltb-true, eqb-false}
 use lib.Dec.{ltb, eqb}
 use lib.ListN.{length, getD, set, take}
 use Rattle.numbers.specs.Numbers.{accepted, slot-number, bad-record}
 use Rattle.bank.specs.Rules.{Result, Kind, every, fed, at, fault, batch}
 use Rattle.bank.specs.declared.piece.Piece.{Piece}
+use Rattle.bank.proofs.Cases.{either}
 
 module _ {X : Type 0} (kind : Kind X) (n : ℕ) where
   -- no fault: every slot and the parameters handed in are in range, and there is such a slot
@@ -39,6 +40,15 @@ module _ {X : Type 0} (kind : Kind X) (n : ℕ) where
     pub stops-outside : ltb (p .slot) n ≡ false → batch kind n xs ys i (p ∷ ps) d ≡ record { answer = record { number = slot-number; index = i; value = 0; bytes = [] }; slots = xs }
     unfolding batch
     stops-outside e = rw e
+
+    -- what holds of the records behind it, and of any refusal at it, holds
+    pub by-first : (P : Result X → Type 0) → P (batch kind n xs (set ys (p .slot) (fed kind (at kind ys (p .slot)) p d .slot)) (suc i) ps d)
+        → ((m : ℕ) → P (record { answer = record { number = m; index = i; value = 0; bytes = [] }; slots = xs })) → P (batch kind n xs ys i (p ∷ ps) d)
+    unfolding batch
+    by-first P on stop =
+        either P (ltb (p .slot) n) _ _
+        (λ e. either P (eqb (fed kind (at kind ys (p .slot)) p d .answer .number) accepted) _ _ (λ h. on) (λ h. stop (fed kind (at kind ys (p .slot)) p d .answer .number)))
+        (λ e. stop slot-number)
 
     -- an accepted batch: its first record was accepted
     pub first-accepted : batch kind n xs ys i (p ∷ ps) d .answer .number ≡ accepted
@@ -76,12 +86,12 @@ module _ {X : Type 0} (kind : Kind X) (n : ℕ) where
       let k : ℕ = rest .place in
       let shorter = on (take k ps) in
       record {
-    place = suc k;
-    there = omega (arith, rest .there);
-    index = ap (λ (b : Result X). b .answer .index) e ∙ rest .index ∙ step i k;
-    forerunners = ap (λ (b : Result X). b .answer .number) shorter ∙ rest .forerunners;
-    number = λ q. ap (λ (b : Result X). b .answer .number) e ∙ rest .number q ∙ ap (λ (b : Result X). recordRefusal (b .slots) (getD ps k q) d) (sym shorter);
-  }
+        place = suc k;
+        there = omega (arith, rest .there);
+        index = ap (λ (b : Result X). b .answer .index) e ∙ rest .index ∙ step i k;
+        forerunners = ap (λ (b : Result X). b .answer .number) shorter ∙ rest .forerunners;
+        number = λ q. ap (λ (b : Result X). b .answer .number) e ∙ rest .number q ∙ ap (λ (b : Result X). recordRefusal (b .slots) (getD ps k q) d) (sym shorter);
+      }
     where
       step : (i k : ℕ) → suc i + k ≡ i + suc k
       step i k = omega arith

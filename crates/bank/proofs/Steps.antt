@@ -1,27 +1,23 @@
 -- What the bank's functions make of a slot's answers is a step of the rules, call by call.
 -- Assumes nothing.
-use mathlib.Core.Path.{_≡_, refl, sym, ap, _∙_}
-use mathlib.Core.Bool.{Bool, true, false, not, cond, _&&_, and-false}
+use mathlib.Core.Path.{_≡_, refl, sym, _∙_}
+use mathlib.Core.Bool.{Bool, true, false, not, and-false}
 use mathlib.Core.List.{List, [], _∷_, map}
 use Prim.Native.Nat.{ℕ, zero, suc, _+_, _<_, _≤_}
 use native.Mathlib.Numerals.{add-one}
 use native.Mathlib.Omega.{arith}
-use borrow.Author.Tests.{not-true, not-false, ltb-true, lt-ltb, le-ltb, le-leb, lt-leb, eq-eqb, ne-eqb}
-use lib.Dec.{ltb, leb, eqb}
-use lib.ListN.{length, getD, set, take, drop, drop-of-length-le, length-map}
-use lib.Seq.{slice, slice-cons, slice-empty, drop-cons}
+use borrow.Author.Tests.{not-true, not-false, lt-ltb, le-ltb, eq-eqb, ne-eqb}
+use lib.ListN.{length, getD, set, drop, drop-of-length-le, length-map}
+use lib.Seq.{drop-cons}
 use Rattle.definitions.specs.Words.{pad}
 use Rattle.laws.specs.Chain.{zeros}
-use Rattle.numbers.specs.Numbers.{accepted, slot-number, batch-long, bad-record}
+use Rattle.numbers.specs.Numbers.{accepted, slot-number, bad-record}
 use Rattle.blake2b.specs.Hash.{zeroHash}
 use Rattle.blake2b.specs.declared.hash.Hash.{Hash}
-use Rattle.blake2b.specs.declared.hash.HashAnswer.{HashAnswer}
-use Rattle.blake2b.specs.declared.state.CountAnswer.{CountAnswer}
-use Rattle.bank.specs.Rules.{Ask, opening, update, digest, digest-to, count, close, on, update-many, Reply, refusal, reply, fed, every, goodAsk, at, fault, batch, step}
-use Rattle.bank.specs.Slots.{slots, slot-limit, batch-limit, told, bankAnswer, batchAnswer, slotAnswer, hashAnswer, countAnswer}
+use Rattle.bank.specs.Rules.{Ask, opening, update, digest, digest-to, count, close, on, refusal, reply, every, goodAsk, at, fault, step}
+use Rattle.bank.specs.Slots.{slots, slot-limit, told, bankAnswer, slotAnswer, hashAnswer, countAnswer}
 use Rattle.bank.specs.declared.bank.Bank.{Bank}
 use Rattle.bank.specs.declared.bank.BankAnswer.{BankAnswer}
-use Rattle.bank.specs.declared.piece.Piece.{Piece}
 use Rattle.bank.specs.declared.slot.Slot.{Slot}
 use Rattle.bank.specs.declared.slot.SlotAnswer.{SlotAnswer}
 use Rattle.bank.proofs.Records.{no-fault-means}

@@ -1,22 +1,21 @@
 -- A digest that goes to an output: the digest's answer, and then the write of its bytes.
 -- Assumes nothing.
 use mathlib.Core.Path.{_≡_, refl, sym, ap, _∙_}
-use mathlib.Core.Bool.{Bool, true, false, cond}
-use mathlib.Core.List.{List, []}
+use mathlib.Core.Bool.{Bool, true, false}
+use mathlib.Core.List.{List}
 use Prim.Native.Nat.{ℕ}
 use native.Mathlib.Omega.{arith}
 use borrow.Author.Tests.{eqb-false, eq-eqb, ne-eqb}
 use lib.Dec.{leb, eqb}
 use lib.ListN.{length}
 use Rattle.laws.specs.Buffer.{over}
-use Rattle.numbers.specs.Numbers.{accepted, slot-closed, output-short}
+use Rattle.numbers.specs.Numbers.{accepted, slot-closed}
 use Rattle.blake2b.specs.Hash.{isDigestLength, hashInRange, hashOf, digestOf, mayWrite, writtenAnswered, writtenOver}
-use Rattle.blake2b.specs.declared.hash.Hash.{Hash}
 use Rattle.blake2b.specs.declared.hash.LengthAnswer.{LengthAnswer}
 use Rattle.blake2b.specs.declared.hash.HashAnswer.{HashAnswer}
 use Rattle.blake2b.proofs.Digests.{digest-of-hash}
 use Rattle.blake2b.proofs.Sizes.{digest-sized}
-use Rattle.bank.specs.Rules.{Answer, digest, digest-to, on, refusal, numbered, written, reply, at, fault, step}
+use Rattle.bank.specs.Rules.{digest, digest-to, on, refusal, numbered, written, reply, at, fault, step}
 use Rattle.bank.specs.Slots.{slots, slot-limit, slotDigested, told, hashAnswer, lengthAnswer}
 use Rattle.bank.specs.declared.bank.Bank.{Bank}
 use Rattle.bank.specs.declared.slot.Slot.{Slot}

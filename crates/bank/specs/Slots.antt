@@ -7,7 +7,6 @@ use lib.ListN.{replicate}
 use Rattle.blake2b.specs.Hash.{hashOf, digestOf}
 use Rattle.blake2b.specs.State.{stateInRange, zeroState, fresh}
 use Rattle.blake2b.specs.State as state
-use Rattle.blake2b.specs.declared.params.Params.{Params}
 use Rattle.blake2b.specs.declared.hash.HashAnswer.{HashAnswer}
 use Rattle.blake2b.specs.declared.hash.LengthAnswer.{LengthAnswer}
 use Rattle.blake2b.specs.declared.state.CountAnswer.{CountAnswer}

@@ -19,8 +19,13 @@ ghost use lib.ListN.{set};
 ghost use Rattle.bank.specs.Rules.{every, fault, at, on, update-many, opening, update, digest, digest-to, count, close};
 ghost use Rattle.bank.specs.Slots.{slotGood, slots, slot-limit, emptyBank, told, bankAnswer, batchAnswer, hashAnswer, countAnswer, lengthAnswer};
 
+pub const SLOTS: usize = 16;
+
+// A batch has at most so many records.
+pub const MOST_RECORDS: usize = 16;
+
 pub struct Bank {
-    pub(crate) slots: [Slot; 16],
+    pub(crate) slots: [Slot; SLOTS],
 }
 
 pub struct BankAnswer {
@@ -47,17 +52,13 @@ fn refused(number: u8, index: usize, bank: Bank) -> BatchAnswer
 }
 
 impl Bank {
-    pub const SLOTS: usize = 16;
-
-    pub const BATCH: usize = 16;
-
     // All slots are closed.
     pub fn new() -> Self
         ensures { λ r. ⌜ r ≡ emptyBank ⌝ }
     {
         let closed = Slot::closed();
         Bank {
-            slots: [closed; 16],
+            slots: [closed; SLOTS],
         }
     }
 
@@ -67,7 +68,7 @@ impl Bank {
     {
         let slots = self.slots;
         let mut i: usize = 0;
-        while i < Bank::SLOTS {
+        while i < SLOTS {
             let s = slots[i];
             if !s.in_range() {
                 return false;
@@ -87,16 +88,19 @@ impl Bank {
         if !good {
             return RECORD;
         }
-        if slot >= Bank::SLOTS {
+        if slot >= SLOTS {
             return SLOT;
         }
         ACCEPTED
     }
 
+    // A slot, and a closed one where there is none.
     fn slot(self, slot: usize) -> Slot
-        requires { ⌜ slot < slot-limit ⌝ }
         ensures { λ r. ⌜ r ≡ at slots (self .slots) slot ⌝ }
     {
+        if slot >= SLOTS {
+            return Slot::closed();
+        }
         let slots = self.slots;
         slots[slot]
     }
@@ -188,13 +192,13 @@ impl Bank {
     }
 
     // The first `used` records, over their data.
-    pub fn update_many(self, pieces: [Piece; 16], used: usize, data: &[u8]) -> BatchAnswer
+    pub fn update_many(self, pieces: [Piece; MOST_RECORDS], used: usize, data: &[u8]) -> BatchAnswer
         ensures { λ r. ⌜ r ≡ batchAnswer (told self (update-many pieces used (now («data» .entry)))) ⌝ }
     {
         if !self.in_range() {
             return refused(RECORD, 0, self);
         }
-        if used > Bank::BATCH {
+        if used > MOST_RECORDS {
             return refused(BATCH, 0, self);
         }
         let before = self.slots;
@@ -203,7 +207,7 @@ impl Bank {
         while i < used {
             let piece = pieces[i];
             let k = piece.slot;
-            if k >= Bank::SLOTS {
+            if k >= SLOTS {
                 return refused(SLOT, i, Bank { slots: before });
             }
             let s = slots[k];

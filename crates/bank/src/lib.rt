@@ -7,4 +7,6 @@ mod slot;
 pub use bank::Bank;
 pub use bank::BankAnswer;
 pub use bank::BatchAnswer;
+pub use bank::MOST_RECORDS;
+pub use bank::SLOTS;
 pub use piece::Piece;

@@ -1,11 +1,11 @@
 -- A state's digest has the length that was asked for.
 -- Assumes nothing.
-use mathlib.Core.Path.{_≡_, refl, sym, ap, _∙_}
+use mathlib.Core.Path.{_≡_, refl, ap, _∙_}
 use mathlib.Core.Bool.{Bool, true, false}
 use mathlib.Core.List.{List}
-use Prim.Native.Nat.{ℕ, _*_, _≤_}
+use Prim.Native.Nat.{ℕ, _≤_}
 use native.Mathlib.Omega.{arith}
-use lib.ListN.{length, take, length-map}
+use lib.ListN.{length}
 use lib.Seq.{length-take-le}
 use Rattle.definitions.specs.Family.{BLAKE2b}
 use Rattle.definitions.specs.Compress.{F}

@@ -2,7 +2,6 @@
 -- Assumes nothing.
 use borrow.Author.Tests.{not-true, not-false}
 use Rattle.bank.proofs.Replies.{closed-place, outside-place, good-place}
-use borrow.Author.Needs.{needs}
 use Rattle.bank.proofs.piece.place_fault.Statement.{statement}
 use Rattle.bank.proofs.piece.place_fault.Tie as tie
 

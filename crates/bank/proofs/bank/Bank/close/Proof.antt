@@ -8,9 +8,6 @@ use Rattle.bank.proofs.bank.Bank.close.Tie as tie
 returns : tie.Need-returns
 returns c = call-refused _ _ _ (c .before .fault .ensures) (c .if1 .taken)
 
-slot-requires : tie.Need-slot-requires
-slot-requires c κs = within-slots _ _ _ (c .before .fault .ensures) (c .if1 .left)
-
 answered-requires : tie.Need-answered-requires
 answered-requires c κs = within-slots _ _ _ (c .before .before .before .fault .ensures) (c .before .before .if1 .left)
 
@@ -21,4 +18,4 @@ returns-2 c =
     call-answered _ _ _ (i .before .fault .ensures) (i .if1 .left) (s .slot .ensures) (c .before .close .ensures) (c .answered .ensures)
 
 pub close-spec : {M : Type 1} → statement M
-close-spec = tie.close (tie.spec (λ c κs. search needs) returns slot-requires (λ c κs. search needs) answered-requires returns-2)
+close-spec = tie.close (tie.spec (λ c κs. search needs) returns (λ c κs. search needs) (λ c κs. search needs) answered-requires returns-2)

@@ -3,16 +3,13 @@
 use mathlib.Core.Path.{ap, _∙_}
 use Rattle.bank.specs.Rules.{count}
 use Rattle.bank.specs.Slots.{countAnswer}
-use Rattle.bank.proofs.Steps.{within-slots, count-refused, answer-of-slot}
+use Rattle.bank.proofs.Steps.{count-refused, answer-of-slot}
 use borrow.Author.Needs.{needs}
 use Rattle.bank.proofs.bank.Bank.count.Statement.{statement}
 use Rattle.bank.proofs.bank.Bank.count.Tie as tie
 
 returns : tie.Need-returns
 returns c = count-refused _ _ (c .before .fault .ensures) (c .if1 .taken)
-
-slot-requires : tie.Need-slot-requires
-slot-requires c κs = within-slots _ _ _ (c .before .fault .ensures) (c .if1 .left)
 
 returns-2 : tie.Need-returns-2
 returns-2 c =
@@ -21,4 +18,4 @@ returns-2 c =
     c .count .ensures ∙ ap countAnswer (answer-of-slot _ _ count (i .before .fault .ensures) (i .if1 .left) (s .slot .ensures))
 
 pub count-spec : {M : Type 1} → statement M
-count-spec = tie.close (tie.spec (λ c κs. search needs) returns slot-requires (λ c κs. search needs) returns-2)
+count-spec = tie.close (tie.spec (λ c κs. search needs) returns (λ c κs. search needs) (λ c κs. search needs) returns-2)

@@ -3,16 +3,13 @@
 use mathlib.Core.Path.{ap, _∙_}
 use Rattle.bank.specs.Rules.{digest}
 use Rattle.bank.specs.Slots.{hashAnswer}
-use Rattle.bank.proofs.Steps.{within-slots, hash-refused, answer-of-slot}
+use Rattle.bank.proofs.Steps.{hash-refused, answer-of-slot}
 use borrow.Author.Needs.{needs}
 use Rattle.bank.proofs.bank.Bank.digest.Statement.{statement}
 use Rattle.bank.proofs.bank.Bank.digest.Tie as tie
 
 returns : tie.Need-returns
 returns c = hash-refused _ _ (c .before .before .fault .ensures) (c .before .if1 .taken) (c .zero .ensures)
-
-slot-requires : tie.Need-slot-requires
-slot-requires c κs = within-slots _ _ _ (c .before .fault .ensures) (c .if1 .left)
 
 returns-2 : tie.Need-returns-2
 returns-2 c =
@@ -21,4 +18,4 @@ returns-2 c =
     c .digest .ensures ∙ ap hashAnswer (answer-of-slot _ _ digest (i .before .fault .ensures) (i .if1 .left) (s .slot .ensures))
 
 pub digest-spec : {M : Type 1} → statement M
-digest-spec = tie.close (tie.spec (λ c κs. search needs) (λ c κs. search needs) returns slot-requires (λ c κs. search needs) returns-2)
+digest-spec = tie.close (tie.spec (λ c κs. search needs) (λ c κs. search needs) returns (λ c κs. search needs) (λ c κs. search needs) returns-2)

@@ -20,9 +20,6 @@ faulty c = c .fault .ensures ∙ ap (λ (g : Bool). fault slots slot-limit (begu
 returns : tie.Need-returns
 returns c = call-refused _ _ _ (faulty (c .before)) (c .if1 .taken)
 
-slot-requires : tie.Need-slot-requires
-slot-requires c κs = within-slots _ _ _ (faulty (c .before)) (c .if1 .left)
-
 open-requires : tie.Need-open-requires
 open-requires c κs = good-params _ _ _ (faulty (c .before .before)) (c .before .if1 .left)
 
@@ -36,4 +33,4 @@ returns-2 c =
     call-answered _ _ _ (faulty (i .before)) (i .if1 .left) (s .slot .ensures) (c .before .«open» .ensures) (c .answered .ensures)
 
 pub open-spec : {M : Type 1} → statement M
-open-spec = tie.close (tie.spec (λ c κs. search needs) (λ c κs. search needs) returns slot-requires open-requires answered-requires returns-2)
+open-spec = tie.close (tie.spec (λ c κs. search needs) (λ c κs. search needs) returns (λ c κs. search needs) open-requires answered-requires returns-2)

@@ -1,15 +1,13 @@
 -- `bank::bank::Bank::update_many` meets its contract.
 -- Assumes nothing.
-use mathlib.Core.Path.{_≡_, refl, sym, ap, _∙_}
-use mathlib.Core.List.{List}
-use Prim.Native.Nat.{ℕ, _-_, _≤_}
+use mathlib.Core.Path.{_≡_, sym, ap, _∙_}
+use Prim.Native.Nat.{_-_, _≤_}
 use native.Mathlib.Omega.{arith}
-use lib.ListN.{length, set, length-set}
+use lib.ListN.{length}
 use lib.Seq.{slice}
 use Rattle.bank.specs.Rules.{update-many, batch}
 use Rattle.bank.specs.Slots.{slots, slot-limit, told, batchAnswer}
 use Rattle.bank.proofs.slot.Slot as slot-type
-use Rattle.bank.proofs.piece.Piece as piece-type
 use Rattle.bank.proofs.Steps.{unmapped}
 use Rattle.bank.proofs.Batches.{batch-bad, batch-too-long, batch-starts, batch-slot-number, batch-stops, batch-goes-on, slots-kept, batch-ends}
 use borrow.Author.Needs.{needs}

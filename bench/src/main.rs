@@ -1,4 +1,5 @@
-//! Times this library's block loop and its BLAKE2b against the portable code of the Rust crate, in one process.
+//! Times this library's block loop and its BLAKE2b against the portable code of the Rust crate, and its bank and
+//! its hash jobs against its states and one-shot hashes, in one process.
 //!
 //! The sides and the sizes take turns, so that a slow spell of the machine meets all of them, and the
 //! fastest of many rounds counts, since whatever disturbs a round only makes it slower. The crate also runs
@@ -24,6 +25,29 @@ extern "C" {
     fn sumpillow_state(input: *const u8, length: usize, out: *mut u8, room: usize) -> u8;
 }
 
+#[link(name = "exports_bank", kind = "static")]
+extern "C" {
+    fn sumpillow_state_updates(input: *const u8, length: usize, times: usize, out: *mut u8, room: usize) -> u8;
+    fn sumpillow_bank_updates(
+        input: *const u8,
+        length: usize,
+        times: usize,
+        slot: usize,
+        out: *mut u8,
+        room: usize,
+    ) -> u8;
+    fn sumpillow_bank_batches(
+        input: *const u8,
+        length: usize,
+        records: usize,
+        times: usize,
+        slot: usize,
+        out: *mut u8,
+        room: usize,
+    ) -> u8;
+    fn sumpillow_jobs(input: *const u8, length: usize, out: *mut u8, room: usize);
+}
+
 // The words before the first block of an unkeyed hash of 64 bytes.
 const INITIAL: [u64; 8] = [
     0x6A09E667F2BDC948,
@@ -40,6 +64,12 @@ const SIZES: [usize; 4] = [64, 128, 4 << 10, 1 << 20];
 // Ours: the block loop, one-shot, through a state; then the crate, twice.
 const SIDES: usize = 5;
 const BATCHES: usize = 5;
+// The records of a bank's batch, and the jobs of one.
+const RECORDS: usize = 16;
+const PIECE: usize = 4 << 10;
+// A bank and a state go by value: a timed call makes its own, and asks it so often that this does not show.
+const REPEATS: usize = 64;
+const SMALL: usize = 64;
 // A timed run hashes at least this much, so that the clock's own cost does not show.
 const LEAST_BYTES: usize = 64 << 10;
 
@@ -63,6 +93,41 @@ fn by_call(call: Whole, input: &[u8]) -> Digest {
     let number = unsafe { call(input.as_ptr(), input.len(), digest.as_mut_ptr(), digest.len()) };
     assert_eq!(number, 0);
     digest
+}
+
+// A state that takes the input so many times.
+fn by_updates(input: &[u8], times: usize) -> Digest {
+    let mut digest = [0; 64];
+    let (start, length, out) = (input.as_ptr(), input.len(), digest.as_mut_ptr());
+    let number = unsafe { sumpillow_state_updates(start, length, times, out, 64) };
+    assert_eq!(number, 0);
+    digest
+}
+
+// A slot of a bank that takes the input so many times, by updates of its own.
+fn by_slot(input: &[u8], times: usize, slot: usize) -> Digest {
+    let mut digest = [0; 64];
+    let (start, length, out) = (input.as_ptr(), input.len(), digest.as_mut_ptr());
+    let number = unsafe { sumpillow_bank_updates(start, length, times, slot, out, 64) };
+    assert_eq!(number, 0);
+    digest
+}
+
+// A slot of a bank whose slots all take the input, by so many batches.
+fn by_batches(input: &[u8], times: usize, slot: usize) -> Digest {
+    let mut digest = [0; 64];
+    let (start, length, out) = (input.as_ptr(), input.len(), digest.as_mut_ptr());
+    let number = unsafe { sumpillow_bank_batches(start, length, RECORDS, times, slot, out, 64) };
+    assert_eq!(number, 0);
+    digest
+}
+
+// Jobs that all have the input.
+fn by_jobs(input: &[u8]) -> [Digest; RECORDS] {
+    let mut digests = [[0; 64]; RECORDS];
+    let (start, length, out) = (input.as_ptr(), input.len(), digests.as_mut_ptr());
+    unsafe { sumpillow_jobs(start, length, out.cast(), RECORDS * 64) };
+    digests
 }
 
 fn portable() -> Params {
@@ -94,6 +159,23 @@ fn check_agreement(data: &[u8]) {
             by_loop(&data[..1024], last_node, true),
             theirs(&params, &every_fourth)
         );
+    }
+}
+
+// Of every slot and every job. A piece of no bytes at the end of its data is refused, so inputs have a byte.
+fn check_records(data: &[u8]) {
+    let params = portable();
+    for length in [1, 63, SMALL, 127, 128, 129, 1000, PIECE] {
+        let input = &data[..length];
+        assert_eq!(by_jobs(input), [theirs(&params, input); RECORDS], "{length} bytes");
+        for times in [1, 3] {
+            let expected = theirs(&params, &input.repeat(times));
+            assert_eq!(by_updates(input, times), expected, "{times} times {length} bytes");
+            for slot in 0..RECORDS {
+                assert_eq!(by_slot(input, times, slot), expected, "{times} times {length} bytes");
+                assert_eq!(by_batches(input, times, slot), expected, "{times} times {length} bytes");
+            }
+        }
     }
 }
 
@@ -129,6 +211,49 @@ fn ratio(times: [f64; BATCHES], others: [f64; BATCHES]) -> String {
     )
 }
 
+// Nanoseconds of one call.
+fn time_call(call: &dyn Fn()) -> f64 {
+    let start = Instant::now();
+    call();
+    start.elapsed().as_nanos() as f64
+}
+
+// What a bank and jobs take, against the same bytes one after another, each named.
+fn time_records(data: &[u8], rounds: usize) {
+    let (piece, small) = (&data[..PIECE], &data[..SMALL]);
+    let pairs: [(&str, &dyn Fn(), &dyn Fn()); 3] = [
+        (
+            "a batch of 16 pieces of 4 KiB : 16 State::update",
+            &|| _ = opaque(by_batches(opaque(piece), REPEATS, 0)),
+            &|| _ = opaque(by_updates(opaque(piece), RECORDS * REPEATS)),
+        ),
+        (
+            "16 jobs of 4 KiB, made, run and read : 16 one-shot",
+            &|| _ = opaque(by_jobs(opaque(piece))),
+            &|| (0..RECORDS).for_each(|_| _ = opaque(by_call(sumpillow_blake2b, opaque(piece)))),
+        ),
+        (
+            "Bank::update of 64 bytes : State::update",
+            &|| _ = opaque(by_slot(opaque(small), RECORDS * REPEATS, 0)),
+            &|| _ = opaque(by_updates(opaque(small), RECORDS * REPEATS)),
+        ),
+    ];
+    let mut fastest = [[[f64::INFINITY; BATCHES]; 2]; 3];
+    for batch in 0..BATCHES {
+        for round in 0..rounds {
+            for ((_, ours, sequential), best) in pairs.iter().zip(&mut fastest) {
+                for turn in 0..2 {
+                    let side = (round + turn) % 2;
+                    best[side][batch] = best[side][batch].min(time_call([ours, sequential][side]));
+                }
+            }
+        }
+    }
+    for ((what, ..), [ours, sequential]) in pairs.iter().zip(fastest) {
+        println!("{what:<52}{}", ratio(ours, sequential));
+    }
+}
+
 fn main() {
     let rounds: usize = std::env::args()
         .nth(1)
@@ -137,6 +262,7 @@ fn main() {
         .map(|i| (i * 7 + i / 251) as u8)
         .collect();
     check_agreement(&data);
+    check_records(&data);
 
     let params = portable();
     let crate_side = |input: &[u8]| theirs(&params, input);
@@ -182,4 +308,5 @@ fn main() {
             ratio(again, first)
         );
     }
+    time_records(&data, rounds);
 }

@@ -1,7 +1,9 @@
 // What a program in C or Rust links to measure a bank against a state, and hash jobs against one-shot hashes.
 // Test code: safe by proof, with no promise of its own. Each call makes its records, since they go by value, and asks them `times` times.
 use bank::Bank;
+use bank::MOST_RECORDS;
 use bank::Piece;
+use bank::SLOTS;
 use blake2b::Params;
 use blake2b::State;
 use many::HashManyJob;
@@ -31,7 +33,7 @@ pub extern "C" fn sumpillow_state_updates(input: &[u8], times: usize, out: &mut 
 fn opened() -> Bank {
     let mut bank = Bank::new();
     let mut i: usize = 0;
-    while i < Bank::SLOTS {
+    while i < SLOTS {
         let done = bank.open(i, Params::new());
         let next = done.bank;
         bank = next;
@@ -61,15 +63,15 @@ pub extern "C" fn sumpillow_bank_updates(
 }
 
 // A record for each slot, each of all the data.
-fn one_for_each(length: usize) -> [Piece; 16] {
+fn one_for_each(length: usize) -> [Piece; MOST_RECORDS] {
     let first = Piece {
         slot: 0,
         start: 0,
         length,
     };
-    let mut pieces = [first; 16];
+    let mut pieces = [first; MOST_RECORDS];
     let mut i: usize = 0;
-    while i < Bank::BATCH {
+    while i < MOST_RECORDS {
         let piece = Piece {
             slot: i,
             start: 0,

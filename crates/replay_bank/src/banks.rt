@@ -1,0 +1,60 @@
+// The calls of a script that hand back a bank, and the setting of a record of the next batch.
+// The bank becomes the current one, also where the call refused.
+use crate::session::Reply;
+use crate::session::Session;
+use crate::table;
+use bank::Bank;
+use bank::BankAnswer;
+use bank::Piece;
+use blake2b::Params;
+use replay_text::put_field;
+use replay_text::put_number;
+
+// The answer of a call that can't refuse.
+fn made(bank: Bank) -> BankAnswer {
+    BankAnswer { number: 0, bank }
+}
+
+fn change(bank: Bank, params: Params, row: usize, slot: u64, message: &[u8]) -> BankAnswer {
+    match row {
+        table::NEW => made(Bank::new()),
+        table::OPEN => bank.open(slot as usize, params),
+        table::UPDATE => bank.update(slot as usize, message),
+        _ => bank.close(slot as usize),
+    }
+}
+
+pub fn call(
+    session: Session,
+    params: Params,
+    row: usize,
+    slot: u64,
+    message: &[u8],
+    out: &mut [u8],
+) -> Reply {
+    let bank = session.bank;
+    let answer = change(bank, params, row, slot, message);
+    let next = answer.bank;
+    let length = put_number(out, answer.number);
+    session.with_bank(next).answered(length)
+}
+
+pub fn set_piece(session: Session, numbers: [u64; 4], out: &mut [u8]) -> Reply {
+    let piece = Piece {
+        slot: numbers[1] as usize,
+        start: numbers[2] as usize,
+        length: numbers[3] as usize,
+    };
+    session
+        .with_piece(numbers[0] as usize, piece)
+        .answered(put_number(out, 0))
+}
+
+pub fn update_many(session: Session, used: u64, data: &[u8], out: &mut [u8]) -> Reply {
+    let bank = session.bank;
+    let pieces = session.pieces;
+    let answer = bank.update_many(pieces, used as usize, data);
+    let next = answer.bank;
+    let length = put_field(out, answer.number, b" index=", answer.index as u64);
+    session.with_bank(next).answered(length)
+}

@@ -1,19 +1,18 @@
 // Runs a script of calls: it comes on standard input, and the answers go to standard output.
-// The work is the interpreters'; here a line is put together from what the reads bring.
-mod desk;
-
+// The work is crate replay_batches'; here a line is put together from what the reads bring.
 use bytes::scan::find;
-use desk::Desk;
 use libc::STDIN_FILENO;
 use libc::STDOUT_FILENO;
+use replay_batches::Session;
+use replay_batches::run_line;
 use replay_text::LINE;
 use replay_text::part;
 use replay_text::push;
 use replay_text::put;
 
-// The sessions, how many bytes of an unfinished line are held, and whether there may be more to read.
+// The session, how many bytes of an unfinished line are held, and whether there may be more to read.
 struct Place {
-    desk: Desk,
+    session: Session,
     held: usize,
     more: bool,
 }
@@ -27,19 +26,19 @@ fn write_line(out: &mut [u8], length: usize) {
 }
 
 // The longest answer, which shows 1,024 bytes, has room in the buffer's 4,096.
-fn run(desk: Desk, line: &[u8], space: &mut [u8]) -> Desk {
+fn run(session: Session, line: &[u8], space: &mut [u8]) -> Session {
     let mut out = io::buffer();
-    let done = desk.run_line(line, space, &mut out);
+    let done = run_line(session, line, space, &mut out);
     write_line(&mut out, done.length);
-    done.desk
+    done.session
 }
 
 // The line that is held is complete.
 fn complete(place: Place, line: &[u8], space: &mut [u8]) -> Place {
     let mut next = place;
-    let desk = place.desk;
-    let after = run(desk, part(line, 0, place.held), space);
-    next.desk = after;
+    let session = place.session;
+    let after = run(session, part(line, 0, place.held), space);
+    next.session = after;
     next.held = 0;
     next
 }
@@ -92,9 +91,9 @@ fn read_some(place: Place, line: &mut [u8], space: &mut [u8]) -> Place {
 
 // A proved loop has to end, and nothing says that the input does: no run has so many turns.
 fn read_all(line: &mut [u8], space: &mut [u8]) {
-    let desk = Desk::new();
+    let session = Session::new();
     let mut place = Place {
-        desk,
+        session,
         held: 0,
         more: true,
     };

@@ -18,6 +18,5 @@ pub use output::front;
 pub use output::part;
 pub use output::push;
 pub use output::put;
-pub use text::before;
 pub use text::low8;
 pub use text::low32;

@@ -19,8 +19,8 @@ fn put_output(out: &mut [u8], bank: Bank, slot: usize, room: usize) -> usize {
 
 fn show(bank: Bank, row: usize, slot: usize, room: usize, out: &mut [u8]) -> usize {
     match row {
-        table::DIGEST => put_digest(out, bank.digest(slot)),
-        table::DIGEST_TO => put_output(out, bank, slot, room),
+        table::BANK_DIGEST => put_digest(out, bank.digest(slot)),
+        table::BANK_DIGEST_TO => put_output(out, bank, slot, room),
         _ => put_count(out, bank.count(slot)),
     }
 }

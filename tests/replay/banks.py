@@ -127,6 +127,7 @@ def slot_numbers():
         table.digest_to(slot, 0)
         table.count(slot)
         table.close(slot)
+        table.update_many([(SLOTS - 1, 0, 3), (slot, 0, 1)], Message(3, 1))
     for slot in TOO_HIGH:
         table.open(slot, plain())
     table.show_all()
@@ -135,6 +136,7 @@ def slot_numbers():
 def open_and_close():
     note("13 for an open slot, whatever the parameters: it keeps its own and its bytes")
     table = Table()
+    table.open(4, plain(20))
     table.open(4, plain(20))
     table.open(4, chosen(5))
     table.update(4, Message(200, 2))

@@ -2,6 +2,7 @@
 // The bank becomes the current one, also where the call refused.
 use crate::session::Reply;
 use crate::session::Session;
+use crate::session::place;
 use crate::table;
 use bank::Bank;
 use bank::BankAnswer;
@@ -38,9 +39,11 @@ fn set_piece(session: Session, numbers: [u64; 4], out: &mut [u8]) -> Reply {
         start: numbers[2] as usize,
         length: numbers[3] as usize,
     };
-    session
-        .with_piece(numbers[0] as usize, piece)
-        .answered(put_number(out, 0))
+    let mut pieces = session.pieces;
+    pieces[place(numbers[0])] = piece;
+    let mut next = session;
+    next.pieces = pieces;
+    next.answered(put_number(out, 0))
 }
 
 fn update_many(session: Session, used: u64, data: &[u8], out: &mut [u8]) -> Reply {

@@ -2,6 +2,7 @@
 // What a call hands back stands at its place, also the zero job of a refusal and the jobs of a refused batch.
 use crate::session::Reply;
 use crate::session::Session;
+use crate::session::place;
 use crate::table;
 use many::HashManyJob;
 use many::hash_many;
@@ -14,7 +15,9 @@ fn new(session: Session, numbers: [u64; 4], data: &[u8], out: &mut [u8]) -> Repl
     let answer = HashManyJob::new(params, data, numbers[1] as usize, numbers[2] as usize);
     let job = answer.job;
     let length = put_number(out, answer.number);
-    session.with_job(numbers[0] as usize, job).answered(length)
+    let mut jobs = session.jobs;
+    jobs[place(numbers[0])] = job;
+    session.with_jobs(jobs).answered(length)
 }
 
 fn run(session: Session, used: u64, data: &[u8], out: &mut [u8]) -> Reply {
@@ -25,8 +28,9 @@ fn run(session: Session, used: u64, data: &[u8], out: &mut [u8]) -> Reply {
     session.with_jobs(next).answered(length)
 }
 
-fn hash(session: Session, place: u64, out: &mut [u8]) -> Reply {
-    let job = session.job(place as usize);
+fn hash(session: Session, n: u64, out: &mut [u8]) -> Reply {
+    let jobs = session.jobs;
+    let job = jobs[place(n)];
     session.answered(put_digest(out, job.to_hash()))
 }
 

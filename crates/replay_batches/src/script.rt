@@ -33,7 +33,9 @@ fn pass_on(session: Session, line: &[u8], space: &mut [u8], out: &mut [u8]) -> R
     let base = session.base;
     let done = replay::run_line(base, line, space, out);
     let next = done.session;
-    session.with_base(next).answered(done.length)
+    let mut after = session;
+    after.base = next;
+    after.answered(done.length)
 }
 
 // One line of a script. Messages are made in the space, and the answer goes to the output: nothing where there is none.

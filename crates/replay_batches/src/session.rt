@@ -5,6 +5,7 @@ use bank::Piece;
 use blake2b::Params;
 use many::HashManyJob;
 use many::MOST_JOBS;
+ghost use Prim.Native.Nat.{_<_};
 
 pub struct Session {
     pub(crate) base: replay::Session,
@@ -17,6 +18,13 @@ pub struct Session {
 pub struct Reply {
     pub session: Session,
     pub length: usize,
+}
+
+// The place of a job or a record: all of a number that was read as at most 15.
+pub(crate) fn place(n: u64) -> usize
+    ensures { λ r. ⌜ r < 16 ⌝ }
+{
+    (n % 16) as usize
 }
 
 impl Session {
@@ -42,50 +50,15 @@ impl Session {
         base.params()
     }
 
-    // The zero job where there is no such place.
-    pub(crate) fn job(self, place: usize) -> HashManyJob {
-        let jobs = self.jobs;
-        if place < MOST_JOBS {
-            return jobs[place];
-        }
-        HashManyJob::zero()
-    }
-
-    pub(crate) fn with_base(self, base: replay::Session) -> Self {
-        let mut s = self;
-        s.base = base;
-        s
-    }
-
     pub(crate) fn with_jobs(self, jobs: [HashManyJob; MOST_JOBS]) -> Self {
         let mut s = self;
         s.jobs = jobs;
         s
     }
 
-    // As it is where there is no such place.
-    pub(crate) fn with_job(self, place: usize, job: HashManyJob) -> Self {
-        let mut jobs = self.jobs;
-        if place < MOST_JOBS {
-            jobs[place] = job;
-        }
-        self.with_jobs(jobs)
-    }
-
     pub(crate) fn with_bank(self, bank: Bank) -> Self {
         let mut s = self;
         s.bank = bank;
-        s
-    }
-
-    // As it is where there is no such place.
-    pub(crate) fn with_piece(self, place: usize, piece: Piece) -> Self {
-        let mut pieces = self.pieces;
-        if place < Bank::BATCH {
-            pieces[place] = piece;
-        }
-        let mut s = self;
-        s.pieces = pieces;
         s
     }
 

@@ -2,6 +2,7 @@
 // It becomes the session's last one, also the zeros of a refusal.
 use crate::session::Reply;
 use crate::session::Session;
+use crate::table;
 use blake2b::Hash;
 use blake2b::HashAnswer;
 use blake2b::Params;
@@ -26,18 +27,20 @@ fn made(hash: Hash) -> HashAnswer {
 
 fn digest(state: State, params: Params, row: usize, message: &[u8]) -> HashAnswer {
     match row {
-        17 => state.finalize(),
-        18 => params.hash(message),
-        19 => made(blake2b(message)),
-        20 => made(Hash::zero()),
+        table::STATE_FINALIZE => state.finalize(),
+        table::HASH => params.hash(message),
+        table::BLAKE2B => made(blake2b(message)),
+        table::DIGEST_ZERO => made(Hash::zero()),
         _ => made(Hash::from_bytes(sixty_four(message))),
     }
 }
 
-fn put_digest(out: &mut [u8], number: u8, hash: Hash) -> usize {
+// A digest, or the refusal in its place.
+pub fn put_digest(out: &mut [u8], answer: HashAnswer) -> usize {
     let mut bytes = [0u8; 64];
+    let hash = answer.hash;
     let length = hash.write_bytes(&mut bytes).length;
-    put_bytes(out, number, length, part(&bytes, 0, length))
+    put_bytes(out, answer.number, length, part(&bytes, 0, length))
 }
 
 pub fn call(session: Session, row: usize, message: &[u8], out: &mut [u8]) -> Reply {
@@ -45,7 +48,7 @@ pub fn call(session: Session, row: usize, message: &[u8], out: &mut [u8]) -> Rep
     let params = session.params;
     let answer = digest(state, params, row, message);
     let last = answer.hash;
-    let length = put_digest(out, answer.number, last);
+    let length = put_digest(out, answer);
     session.with_last(last).answered(length)
 }
 

@@ -6,7 +6,11 @@ mod script;
 mod session;
 mod shown;
 mod states;
+mod table;
 
+pub use digests::put_digest;
 pub use script::run_line;
 pub use session::Reply;
 pub use session::Session;
+pub use shown::filled;
+pub use shown::put_count;

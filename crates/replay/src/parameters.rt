@@ -2,6 +2,7 @@
 // The record that a setter hands back becomes the current one, also where it refused.
 use crate::session::Reply;
 use crate::session::Session;
+use crate::table;
 use blake2b::Params;
 use blake2b::ParamsAnswer;
 use replay_text::low8;
@@ -17,17 +18,17 @@ fn new() -> ParamsAnswer {
 
 fn set(params: Params, row: usize, n: u64, message: &[u8]) -> ParamsAnswer {
     match row {
-        0 => new(),
-        1 => params.hash_length(n as usize),
-        2 => params.key(message),
-        3 => params.salt(message),
-        4 => params.personal(message),
-        5 => params.fanout(low8(n)),
-        6 => params.max_depth(low8(n)),
-        7 => params.max_leaf_length(low32(n)),
-        8 => params.node_offset(n),
-        9 => params.node_depth(low8(n)),
-        10 => params.inner_hash_length(n as usize),
+        table::PARAMS_NEW => new(),
+        table::PARAMS_HASH_LENGTH => params.hash_length(n as usize),
+        table::PARAMS_KEY => params.key(message),
+        table::PARAMS_SALT => params.salt(message),
+        table::PARAMS_PERSONAL => params.personal(message),
+        table::PARAMS_FANOUT => params.fanout(low8(n)),
+        table::PARAMS_MAX_DEPTH => params.max_depth(low8(n)),
+        table::PARAMS_MAX_LEAF_LENGTH => params.max_leaf_length(low32(n)),
+        table::PARAMS_NODE_OFFSET => params.node_offset(n),
+        table::PARAMS_NODE_DEPTH => params.node_depth(low8(n)),
+        table::PARAMS_INNER_HASH_LENGTH => params.inner_hash_length(n as usize),
         _ => params.last_node(n == 1),
     }
 }

@@ -31,6 +31,10 @@ impl Session {
         }
     }
 
+    pub fn params(self) -> Params {
+        self.params
+    }
+
     pub fn with_params(self, params: Params) -> Self {
         let mut s = self;
         s.params = params;

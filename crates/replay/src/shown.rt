@@ -2,6 +2,7 @@
 // An output that a call writes to is filled beforehand, so that untouched bytes are seen.
 use crate::session::Reply;
 use crate::session::Session;
+use crate::table;
 use blake2b::CountAnswer;
 use blake2b::EqualAnswer;
 use blake2b::Hash;
@@ -16,7 +17,7 @@ const FILL: u8 = 0xA5;
 // The longest output, in bytes: what the rows of the writes take.
 const ROOM: usize = 1024;
 
-fn put_count(out: &mut [u8], answer: CountAnswer) -> usize {
+pub fn put_count(out: &mut [u8], answer: CountAnswer) -> usize {
     put_field(out, answer.number, b" count=", answer.count)
 }
 
@@ -28,13 +29,14 @@ fn put_equal(out: &mut [u8], answer: EqualAnswer) -> usize {
     put_field(out, answer.number, b" equal=", answer.equal as u64)
 }
 
-fn filled() -> [u8; ROOM] {
+// An output that is not written to yet.
+pub fn filled() -> [u8; ROOM] {
     [FILL; ROOM]
 }
 
 fn write(hash: Hash, row: usize, output: &mut [u8]) -> LengthAnswer {
     match row {
-        27 | 29 => hash.write_bytes(output),
+        table::DIGEST_WRITE_BYTES | table::DIGEST_WRITTEN_BYTES => hash.write_bytes(output),
         _ => hash.write_hex(output),
     }
 }
@@ -42,8 +44,8 @@ fn write(hash: Hash, row: usize, output: &mut [u8]) -> LengthAnswer {
 // What is shown of an output: all of it, or the part that a call hands back as written.
 fn seen<'a>(hash: Hash, row: usize, output: &'a [u8]) -> &'a [u8] {
     match row {
-        29 => hash.written_bytes(output),
-        30 => hash.written_hex(output),
+        table::DIGEST_WRITTEN_BYTES => hash.written_bytes(output),
+        table::DIGEST_WRITTEN_HEX => hash.written_hex(output),
         _ => output,
     }
 }
@@ -60,10 +62,10 @@ fn show(session: Session, row: usize, n: u64, message: &[u8], out: &mut [u8]) ->
     let last = session.last;
     let kept = session.kept;
     match row {
-        23 => put_count(out, state.count()),
-        24 => put_length(out, last.len()),
-        25 => put_equal(out, last.equals(kept)),
-        26 => put_equal(out, last.equals_bytes(message)),
+        table::STATE_COUNT => put_count(out, state.count()),
+        table::DIGEST_LEN => put_length(out, last.len()),
+        table::DIGEST_EQUALS => put_equal(out, last.equals(kept)),
+        table::DIGEST_EQUALS_BYTES => put_equal(out, last.equals_bytes(message)),
         _ => put_output(out, last, row, n as usize),
     }
 }

@@ -2,6 +2,7 @@
 // It becomes the current one, also where the call refused.
 use crate::session::Reply;
 use crate::session::Session;
+use crate::table;
 use blake2b::Params;
 use blake2b::State;
 use blake2b::StateAnswer;
@@ -14,10 +15,10 @@ fn made(state: State) -> StateAnswer {
 
 fn change(state: State, params: Params, row: usize, n: u64, message: &[u8]) -> StateAnswer {
     match row {
-        12 => made(State::new()),
-        13 => made(State::zero()),
-        14 => params.to_state(),
-        15 => state.update(message),
+        table::STATE_NEW => made(State::new()),
+        table::STATE_ZERO => made(State::zero()),
+        table::STATE_OPEN => params.to_state(),
+        table::STATE_UPDATE => state.update(message),
         _ => state.set_last_node(n == 1),
     }
 }

@@ -1,0 +1,54 @@
+"""Lines that are no call, and the forms that a line and a message may have."""
+import hashlib
+
+from script import counted, digest_answer, note, refused_digest, say
+
+
+def malformed_lines():
+    note("lines that are no call change nothing")
+    say("params new")
+    say("state new")
+    say("state update x:616263")
+    say("bank new")
+    say("bank open 2")
+    say("bank update 2 x:616263")
+    say("job new 2 0 3 x:616263")
+    for fault, lines in {
+        "command": ["hush x:00", "state", "state open now", "state close", "params", "params depth 1", "digest",
+                    "digest length", "params new now", "HASH x:00", " hash x:00",
+                    "bank", "bank shut 2", "bank new 2", "banks new", "bank  new", "piece 0 0 0 0", "job", "job zero 2",
+                    "jobs run 1 x:00"],
+        "number": ["params fanout 256", "params max_depth -1", "params max_leaf_length 4294967296",
+                   "params node_offset 18446744073709551616", "params hash_length", "params hash_length 1x",
+                   "params hash_length 0x10", "params last_node 2", "state set_last_node 2",
+                   "digest write_bytes 1025", "digest written_hex 1025", "digest write_hex",
+                   "bank open", "bank open -1", "bank open 18446744073709551616", "bank close 2 2", "bank close x:00",
+                   "bank update", "bank update x:00", "bank update  2 x:00", "bank digest 2 64", "bank digest_to 2",
+                   "bank digest_to 2 1025", "bank digest_to 2 64 ", "bank piece 16 2 0 1", "bank piece 0 2 0",
+                   "bank piece 0 2 0 1 1", "bank update_many x:00", "job new 16 0 1 x:00", "job new 2 0 x:00",
+                   "job new 2  0 1 x:00", "job run x:00", "job hash 16", "job hash", "job hash 2 2"],
+        "message": ["hash", "hash 616263", "hash x:0", "hash x:0g", "hash x:00 00", "hash c:4194305:0", "hash c:1:256",
+                    "hash c:1", "hash g:1:2147483648", "hash q:00", "hash x:00[0:2]", "hash x:0001[2:1]",
+                    "hash x:0001[0:1", "hash x:0001[0:1]z", "hash x:0001[:1]", "params key x:0", "state update",
+                    "digest from_bytes c:63:0", "digest from_bytes c:65:0", "digest equals_bytes 00",
+                    "bank update 2", "bank update 2 616263", "bank update 2 2 x:00", "bank update 2  x:00",
+                    "bank update_many 1", "bank update_many 1 x:0", "job new 2 0 1", "job new 2 0 1 1 x:00", "job run 16",
+                    "job run 3 x:00[0:2]"],
+        "line": ["blake2b x:" + "00" * 4091 + "0", "blake2b x:" + "00" * 20000, "# " + "-" * 8191,
+                 "bank update 2 x:" + "00" * 4089, "job run 0 x:" + "00" * 4091],
+    }.items():
+        for line in lines:
+            say(line, "malformed " + fault)
+    say("state count", "number=0 count=3")
+    say("state finalize", digest_answer(hashlib.blake2b(b"abc").hexdigest()))
+    say("bank count 2", "number=0 count=3")
+    say("bank digest 2", digest_answer(hashlib.blake2b(b"abc").hexdigest()))
+    say("job hash 2", refused_digest(12))
+    note("the longest line, upper-case digits, and a part of a message")
+    say("blake2b x:" + "00" * 4091, digest_answer(hashlib.blake2b(bytes(4091)).hexdigest()))
+    say("blake2b x:ABcdEF", digest_answer(hashlib.blake2b(b"\xab\xcd\xef").hexdigest()))
+    say("blake2b c:300:250[5:299]", digest_answer(hashlib.blake2b(counted(600)[255:549]).hexdigest()))
+    say("blake2b x:00[1:1]", digest_answer(hashlib.blake2b(b"").hexdigest()))
+    say("", None)
+    note("a last line needs no line feed")
+    say("params new")

@@ -13,3 +13,6 @@ pub mod Serial
 pub mod Steps
 pub mod Lifts
 pub mod Tails
+pub mod Deals
+pub mod Images
+pub mod Trees

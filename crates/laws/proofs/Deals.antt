@@ -1,19 +1,19 @@
 -- The machine of n leaves that are dealt blocks in turn is lawful, and its answer, each leaf's chain through its blocks, may be asked for
 -- after any rows that may go. For any number of leaves. Assumes nothing.
-use mathlib.Core.Path.{_≡_, refl, _∙_}
-use mathlib.Core.Bool.{Bool, true}
+use mathlib.Core.Path.{_≡_, refl, ap, _∙_}
+use mathlib.Core.Bool.{Bool, true, false}
 use mathlib.Core.List.{List, [], _∷_, _++_, map}
 use Prim.Native.Nat.{ℕ, zero, suc, _+_, _-_, _*_, _≤_, _<_}
 use native.Mathlib.Nat.{add-zero, add-comm, le-refl, le-trans, mul-le-mul-right, mul-pos, not-suc-le-zero}
 use native.Mathlib.Omega.{arith}
 use lib.Dec.{eqb}
 use lib.ListN.{length, drop, set, getD, length-drop}
-use lib.Seq.{drop-drop, drop-append-le}
+use lib.Seq.{drop-drop, drop-append-le, length-take-le}
 use Rattle.definitions.specs.Words.{from}
-use Rattle.laws.specs.Chain.{spare, absorb, through}
+use Rattle.laws.specs.Chain.{spare, blockAt, absorb, through}
 use Rattle.laws.specs.Deal.{each, dealt, finished, parallel}
-use Rattle.laws.proofs.Rows.{spare-less}
-use Rattle.laws.proofs.Chains.{absorb-more, absorb-front, through-late}
+use Rattle.laws.proofs.Rows.{spare-is, spare-less}
+use Rattle.laws.proofs.Chains.{through-whole, absorb-more, absorb-front, through-late}
 use Rattle.laws.proofs.Buffers.{Lawful, Late}
 
 -- members are changed one by one
@@ -71,6 +71,17 @@ module _ {W : Type 0} (bb : ℕ) (F : W → List ℕ → ℕ → Bool → Bool �
       let in-row : suc i * bb ≤ n * bb = mul-le-mul-right bb h in
       let here : i * bb ≤ length a = omega arith in
       rw (drop-append-le (i * bb) a b here) (absorb-front bb F (n * bb) w t (drop (i * bb) a) b (suc k) (simp length-drop (omega arith)))
+
+  -- a run of leaf i over whole rows that does not finalize: the last block too is one of those that went
+  pub rows-through : (w : W) (t : ℕ) (d : List ℕ) (i k : ℕ) → i < n → 0 < k → length d ≡ n * bb * k
+      → through bb F (n * bb) w t false false (drop (i * bb) d) ≡ absorb bb F (n * bb) w t (drop (i * bb) d) k
+  unfolding blockAt
+  rows-through w t d i zero g h e = absurd (not-suc-le-zero h)
+  rows-through w t d i (suc k) g h e =
+      let in-row : suc i * bb ≤ n * bb = mul-le-mul-right bb g in
+      let l : length (drop (i * bb) d) ≡ n * bb * suc k - i * bb = length-drop (i * bb) d ∙ ap (λ (m : ℕ). m - i * bb) e in
+      through-whole bb F (n * bb) w t (drop (i * bb) d) k (spare-is (n * bb) 0 row (length (drop (i * bb) d)) k (omega arith) (omega arith))
+      (length-take-le bb (drop (n * bb * k) (drop (i * bb) d)) (rw (length-drop (n * bb * k) (drop (i * bb) d)) (omega arith)))
 
   dealt-none : (ws : List W) (t : ℕ) (d : List ℕ) → dealt bb F n ws t d 0 ≡ ws
   unfolding dealt

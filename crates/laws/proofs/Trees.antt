@@ -4,7 +4,7 @@ use mathlib.Core.Path.{_≡_, refl, sym, ap, _∙_}
 use mathlib.Core.Bool.{Bool, true}
 use mathlib.Core.List.{List, [], _∷_, _++_, map, flatMap, foldl, append-nil, append-assoc}
 use Prim.Native.Nat.{ℕ, zero, suc, _+_, _-_, _*_, _/_, _≤_, _<_}
-use native.Mathlib.Nat.{mul-comm, mul-pos, mul-add-div, add-assoc, not-suc-le-zero}
+use native.Mathlib.Nat.{mul-comm, mul-pos, mul-add-div, not-suc-le-zero, suc-ne-zero}
 use native.Mathlib.Omega.{arith}
 use lib.Dec.{eqb}
 use lib.ListN.{length, take, drop, length-append}
@@ -103,7 +103,18 @@ module _ (f : Family) (some : 0 < f .bb) (n : ℕ) (leaves : 0 < n) where
         ap (λ (x : List ℕ). take d (stateBytes f (throughBlocks f bb (start f (parameters f n d (length key) 0 1)) 0 true true x))) bytes
         ∙ ap (take d) (sym (untruncated-through f some (parameters f n d (length key) 0 1) true (flatMap (leaf f n d key m) (from 0 n))))
 
-  row-front : (key m : List ℕ) → keyedRow f n key [] ++ m ≡ keyedRow f n key m
+  -- the row of key blocks, where there is a key and where there is none
+  pub row-some : (key : List ℕ) → 0 < length key → keyedRow f n key [] ≡ rowOf n (pad bb key)
+  unfolding keyedRow
+  row-some [] h = absurd (not-suc-le-zero h)
+  row-some (k ∷ key) h = append-nil (rowOf n (pad bb (k ∷ key)))
+
+  pub row-none : (key m : List ℕ) → length key ≡ 0 → keyedRow f n key m ≡ m
+  unfolding keyedRow
+  row-none [] m h = refl
+  row-none (k ∷ key) m h = absurd (suc-ne-zero (length key) h)
+
+  pub row-front : (key m : List ℕ) → keyedRow f n key [] ++ m ≡ keyedRow f n key m
   unfolding keyedRow
   row-front [] m = refl
   row-front (k ∷ key) m = rw append-nil

@@ -44,10 +44,9 @@ fn last_node_of(i: usize) -> LastNode
     ensures { λ r. ⌜ r ≡ lastNodeOf (eqb (suc i) 4) ⌝ }
 {
     if i + 1 == Params::DEGREE {
-        LastNode::Yes
-    } else {
-        LastNode::No
+        return LastNode::Yes;
     }
+    LastNode::No
 }
 
 // One leaf, from its first block of the input on: the one place where an engine runs it.
@@ -114,7 +113,7 @@ fn zero_states() -> [u8; 256]
     [0; 256]
 }
 
-// The leaves' whole states, one behind the other.
+// The leaves' states, one behind the other: whole, whatever digest length is asked for.
 fn leaf_bytes(leaves: [Leaf; 4]) -> [u8; 256]
     ensures { λ r. ⌜ r ≡ flatMap stateOf leaves ⌝ }
 {
@@ -124,7 +123,7 @@ fn leaf_bytes(leaves: [Leaf; 4]) -> [u8; 256]
         let leaf = leaves[i];
         let w = leaf.words;
         let bytes = write_words(w);
-        store(&mut block, i * Params::OUTBYTES, &bytes);
+        store(&mut block, i * Params::OUTBYTES, &bytes[0..64]);
         i += 1;
     }
     block

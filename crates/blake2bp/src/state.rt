@@ -201,13 +201,13 @@ impl State {
         let b = self.buf;
         let c = self.count;
         let leaves = compress_to_leaves(l, &b[0..512], c, 1);
-        let mut buf = zero_buffer();
-        store(&mut buf, 0, &b[512..1024]);
+        let mut front = zero_buffer();
+        store(&mut front, 0, &b[512..1024]);
         let count = LeafCount(c.0 + 128);
         let mut s = self;
         s.leaves = leaves;
         s.count = count;
-        s.buf = buf;
+        s.buf = front;
         s.buf_len = ROW;
         s
     }

@@ -5,7 +5,7 @@ use mathlib.Core.List.{List, _++_, flatMap}
 use Prim.Native.Nat.{ℕ, _≤_, _<_, _-_, _+_, _*_}
 use native.Mathlib.Omega.{arith}
 use borrow.Author.Needs.{needs}
-use lib.ListN.{length, take, length-append}
+use lib.ListN.{length, take, length-append, length-take}
 use lib.Seq.{take-all}
 use Rattle.definitions.specs.Words.{pad}
 use Rattle.laws.proofs.Bytes.{pad-whole}
@@ -49,14 +49,21 @@ slice-aggregate-store c = search needs
 mul-store : tie.Need-mul-store Inv-loop μ-loop
 mul-store c = search needs
 
-slice-aggregate-store-2 : tie.Need-slice-aggregate-store-2 Inv-loop μ-loop
-slice-aggregate-store-2 c = search needs
+sub-store : tie.Need-sub-store Inv-loop μ-loop
+sub-store c = search needs
+
+part-store-start : tie.Need-part-store-start Inv-loop μ-loop
+part-store-start c = search needs
+
+part-store-end : tie.Need-part-store-end Inv-loop μ-loop
+part-store-end c = let n = sixty-four (c .before .before) in omega arith
 
 store-requires : tie.Need-store-requires Inv-loop μ-loop
 store-requires c κs =
-    let l = c .before .before .before .before .before .before .loop in
-    let n = sixty-four (c .before .before) in
-    omega (arith, l .inv .1)
+    let w = c .before .before .before in
+    let l = w .before .before .before .before .loop in
+    let n = sixty-four w in
+    simp length-take (omega (arith, l .inv .1))
 
 add-i : tie.Need-add-i Inv-loop μ-loop
 add-i c = search needs
@@ -66,13 +73,16 @@ loop-less c = search needs
 
 loop-again : tie.Need-loop-again Inv-loop μ-loop
 loop-again c =
-    let w = c .before .before .before .before in
+    let w = c .before .before .before .before .before in
     let l = w .before .before .before .before .loop in
     let s = w .before .before .before .before .before .before in
     let ls = s .args .t1 in
     let n = sixty-four w in
-    let more = ap (λ (b : List ℕ). flatMap stateOf (take (l .i) ls) ++ b) (w .write-words .ensures) ∙ flat-more stateOf ls (l .i) _ (rw (four s) (omega arith)) in
-    (omega arith, search needs, ap length (sym more) ∙ length-append (flatMap stateOf (take (l .i) ls)) (w .write-words .result) ∙ omega (arith, l .inv .2), filled-turn 256 (flatMap stateOf (take (l .i) ls)) (w .write-words .result) (l .inv .3) (sym (l .inv .2)) (c .before .store .ensures) ∙ ap (pad 256) more)
+    let all : take 64 (w .write-words .result) ≡ w .write-words .result = take-all 64 (w .write-words .result) (omega arith) in
+    let front = flatMap stateOf (take (l .i) ls) in
+    let more = ap (λ (b : List ℕ). front ++ b) (all ∙ w .write-words .ensures) ∙ flat-more stateOf ls (l .i) _ (rw (four s) (omega arith)) in
+    let grown = ap length (sym more) ∙ length-append front (take 64 (w .write-words .result)) ∙ ap (λ (b : List ℕ). length front + length b) all in
+    (omega arith, search needs, grown ∙ omega (arith, l .inv .2), filled-turn 256 front (take 64 (w .write-words .result)) (l .inv .3) (sym (l .inv .2)) (c .before .store .ensures) ∙ ap (pad 256) more)
 
 returns : tie.Need-returns Inv-loop μ-loop
 returns c =
@@ -95,7 +105,9 @@ leaf-bytes-spec =
     write-words-requires
     slice-aggregate-store
     mul-store
-    slice-aggregate-store-2
+    sub-store
+    part-store-start
+    part-store-end
     store-requires
     add-i
     loop-less

@@ -4,6 +4,7 @@ pub mod OneShot
 pub mod Pieces
 pub mod Ranges
 pub mod Rows
+pub mod RunCases
 pub mod Setters
 pub mod States
 pub mod Turns

@@ -1,8 +1,8 @@
 -- The two kinds of count: the message count is four times the leaf count and the bytes buffered, without the key blocks.
 -- Assumes nothing.
-use mathlib.Core.Path.{_≡_, refl}
+use mathlib.Core.Path.{_≡_}
 use mathlib.Core.Bool.{true, cond}
-use Prim.Native.Nat.{ℕ, _+_, _-_, _*_}
+use Prim.Native.Nat.{_+_, _-_, _*_}
 use Rattle.blake2bp.specs.State.{stateInRange, counted, leafCounted, bufferedIn}
 use Rattle.blake2bp.specs.declared.state.State.{State}
 

@@ -2,7 +2,7 @@
 -- Assumes nothing.
 use mathlib.Core.Path.{_≡_, refl, sym, ap, _∙_}
 use mathlib.Core.Bool.{Bool, true, false, not}
-use mathlib.Core.List.{List, [], _∷_, _++_, map, foldl, append-nil}
+use mathlib.Core.List.{List, [], _∷_, map, append-nil}
 use Prim.Native.Nat.{ℕ, _+_, _<_, _≤_}
 use native.Mathlib.Nat.{zero-add}
 use native.Mathlib.Omega.{arith}
@@ -16,14 +16,13 @@ use Rattle.laws.specs.Deal.{finished}
 use Rattle.laws.specs.Leaves.{rooted, leafStarts, rootStart}
 use Rattle.laws.proofs.Images.{finished-image}
 use Rattle.laws.proofs.Trees.{row-none, rooted-is-tree}
-use Rattle.laws.specs.Chain.{zeros}
 use Rattle.numbers.specs.Numbers.{accepted, total-over, bad-record, limit}
 use Rattle.blake2b.specs.Hash.{hashOf, noHash, madeFrom}
 use Rattle.blake2b.specs.declared.hash.HashAnswer.{HashAnswer}
 use Rattle.blake2b.proofs.States.{made-hash}
 use Rattle.blake2bp.specs.Leaves.{leafOf, wordsOf, onLeaf}
 use Rattle.blake2bp.specs.Params.{defaults, inRange, keyOf}
-use Rattle.blake2bp.specs.State.{pushed, total, stateInRange, front, fresh, updated, finalized, closedDigest, digest, hashed}
+use Rattle.blake2bp.specs.State.{pushed, total, stateInRange, front, fresh, updated, finalized, digest, hashed}
 use Rattle.blake2bp.specs.declared.leaves.Leaf.{Leaf}
 use Rattle.blake2bp.specs.declared.params.Params.{Params}
 use Rattle.blake2bp.specs.declared.state.StateAnswer.{StateAnswer}

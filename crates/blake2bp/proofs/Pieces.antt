@@ -2,8 +2,8 @@
 -- the paper's tree of the joined bytes. Assumes nothing.
 use mathlib.Core.Path.{_≡_, refl, sym, ap, _∙_}
 use mathlib.Core.Bool.{Bool, true, false, cond}
-use mathlib.Core.List.{List, [], _∷_, _++_, map, foldl}
-use Prim.Native.Nat.{ℕ, zero, suc, _+_, _-_, _*_, _<_, _≤_}
+use mathlib.Core.List.{List, [], _∷_, map, foldl}
+use Prim.Native.Nat.{ℕ, _+_, _-_, _<_, _≤_}
 use native.Mathlib.Nat.{zero-add}
 use native.Mathlib.Omega.{arith}
 use borrow.Author.Tests.{le-leb, lt-leb, leb-true, leb-false}
@@ -14,7 +14,7 @@ use Rattle.definitions.specs.Words.{pad}
 use Rattle.definitions.specs.Family.{BLAKE2b}
 use Rattle.definitions.proofs.Lengths.{length-pad}
 use Rattle.laws.specs.Chain.{zeros}
-use Rattle.laws.specs.Buffer.{Held, joined, closed}
+use Rattle.laws.specs.Buffer.{joined, closed}
 use Rattle.laws.specs.Buffer as buffer
 use Rattle.laws.specs.Deal.{finished}
 use Rattle.laws.specs.Leaves.{rowOf, rooted, leafStarts, rootStart}

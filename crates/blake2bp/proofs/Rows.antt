@@ -12,10 +12,9 @@ use Rattle.laws.specs.Buffer.{joined}
 use Rattle.numbers.specs.Numbers.{accepted, total-over, limit}
 use Rattle.blake2b.specs.Hash.{hashOf}
 use Rattle.blake2b.specs.Row.{Call, update, digest, count, Answer, taken, digested}
-use Rattle.blake2b.specs.Row as row
 use Rattle.blake2b.proofs.Digests.{digest-of-hash}
 use Rattle.blake2bp.specs.Params.{keyOf}
-use Rattle.blake2bp.specs.State.{pushed, total, stateInRange, front, fresh, updated, finalized, counted, closedDigest}
+use Rattle.blake2bp.specs.State.{pushed, total, stateInRange, front, fresh, updated, finalized, counted}
 use Rattle.blake2bp.specs.State as state
 use Rattle.blake2bp.specs.Row.{stateSays, stateAnswers, rowTotal, rowSays, rowAnswers}
 use Rattle.blake2bp.specs.declared.params.Params.{Params}

@@ -1,7 +1,7 @@
 -- What a setter answers, case by case, and when parameters are in range.
 -- Assumes nothing.
 use mathlib.Core.Path.{_≡_, sym, _∙_}
-use mathlib.Core.Bool.{Bool, true, false, not, _&&_, and-eq-true-iff}
+use mathlib.Core.Bool.{Bool, true, false, not, and-eq-true-iff}
 use Prim.Native.Nat.{ℕ, _≤_}
 use borrow.Author.Tests.{not-true, not-false, leb-true}
 use lib.Dec.{leb}

@@ -6,19 +6,19 @@ use mathlib.Core.List.{List, [], _++_, map}
 use Prim.Native.Nat.{ℕ, _+_, _-_, _*_, _<_, _≤_}
 use native.Mathlib.Omega.{arith}
 use borrow.Author.Tests.{not-true, not-false, le-leb, lt-leb}
-use lib.ListN.{length, take, drop, length-drop, take-append-drop}
-use lib.Seq.{paste, take-all, length-take-le}
+use lib.ListN.{length, take, drop}
+use lib.Seq.{paste}
 use Rattle.definitions.specs.Family.{BLAKE2b}
 use Rattle.laws.specs.Chain.{zeros, spare}
 use Rattle.laws.specs.Buffer.{closed}
 use Rattle.laws.specs.Buffer as buffer
 use Rattle.laws.specs.Deal.{dealt, finished}
 use Rattle.laws.specs.Leaves.{rooted}
-use Rattle.laws.proofs.Buffers.{Lawful, Sound}
-use Rattle.laws.proofs.Buffers as buffers
+use Rattle.laws.proofs.Buffers.{Lawful}
 use Rattle.laws.proofs.Steps as steps
 use Rattle.laws.proofs.Lifts.{Store}
 use Rattle.laws.proofs.Deals.{parallel-lawful}
+use Rattle.laws.proofs.Halves.{both-gone, half-gone}
 use Rattle.numbers.specs.Numbers.{accepted, total-over, bad-record, limit}
 use Rattle.blake2b.specs.Hash.{isDigestLength, noHash, madeFrom}
 use Rattle.blake2b.specs.declared.hash.HashAnswer.{HashAnswer}
@@ -47,24 +47,13 @@ module _ (s : State) (sized : length (s .buf) ≡ 1024) where
 
   -- a full buffer: both its rows go, or the first
   module _ (full : s .«buf_len» ≡ 1024) where
-    all-held : pending s ≡ s .buf
-    unfolding buffer.pending
-    all-held = take-all (s .«buf_len») (s .buf) (omega arith)
-
-    pub both-made : {l : List Leaf} {b : List ℕ} → l ≡ dealt 128 onLeaf 4 (s .leaves) (s .count .0) (s .buf) 2 → b ≡ zeros 1024 → with-parts s l (s .count .0 + 256) b 0 ≡ moved s (pending s) 2
-    both-made {l} {b} e f = rw all-held (ap (holding s) (steps.emptied machine lawful (core s) (s .buf) l b 2 (omega arith) (omega arith) e f))
+    pub both-made : {l : List Leaf} {b : List ℕ} → l ≡ dealt 128 onLeaf 4 (s .leaves) (s .count .0) (s .buf) 2 → b ≡ zeros 1024
+        → with-parts s l (s .count .0 + 256) b 0 ≡ moved s (pending s) 2
+    both-made e f = ap (holding s) (both-gone machine lawful refl (core s) sized full e f)
 
     pub half-made : {l : List Leaf} {z b : List ℕ} → l ≡ dealt 128 onLeaf 4 (s .leaves) (s .count .0) (take 512 (s .buf)) 1 → z ≡ zeros 1024
         → b ≡ paste z 0 (take 512 (drop 512 (s .buf))) (length (take 512 (drop 512 (s .buf)))) → with-parts s l (s .count .0 + 128) b 512 ≡ moved s (pending s) 1
-    half-made {l} {z} {b} e f g =
-        let n : 512 ≡ length (s .buf) - 512 = omega arith in
-        let front : length (take 512 (s .buf)) ≡ 512 = length-take-le 512 (s .buf) (omega arith) in
-        let first : l ≡ dealt 128 onLeaf 4 (s .leaves) (s .count .0) (s .buf) 1 =
-        e ∙ sym (lawful .run-front (s .leaves) (s .count .0) (take 512 (s .buf)) (drop 512 (s .buf)) 1 (omega arith))
-        ∙ ap (λ (d : List ℕ). dealt 128 onLeaf 4 (s .leaves) (s .count .0) d 1) (take-append-drop 512 (s .buf)) in
-        let back : take 512 (drop 512 (s .buf)) ≡ drop 512 (s .buf) = take-all 512 (drop 512 (s .buf)) (rw length-drop (omega arith)) in
-        let second : b ≡ paste (zeros 1024) 0 (drop 512 (s .buf)) (length (drop 512 (s .buf))) = rw (g, f, back) in
-        rw (all-held, ap (with-parts s l (s .count .0 + 128) b) n) (ap (holding s) (steps.kept machine lawful (core s) (s .buf) l b 1 (omega arith) first second))
+    half-made e f g = ap (holding s) (half-gone machine lawful refl (core s) sized full e f g)
 
 module _ (s : State) (a : List ℕ) (k : ℕ) (empty : s .«buf_len» ≡ 0) (whole : length a ≡ 512 * k) where
   pub rows-none : k ≡ 0 → s ≡ moved s a k

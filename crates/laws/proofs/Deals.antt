@@ -1,17 +1,19 @@
 -- The machine of n leaves that are dealt blocks in turn is lawful, and its answer, each leaf's chain through its blocks, may be asked for
 -- after any rows that may go. For any number of leaves. Assumes nothing.
-use mathlib.Core.Path.{_≡_, refl, ap, _∙_}
+use mathlib.Core.Path.{_≡_, refl, sym, ap, _∙_}
 use mathlib.Core.Bool.{Bool, true, false}
 use mathlib.Core.List.{List, [], _∷_, _++_, map}
-use Prim.Native.Nat.{ℕ, zero, suc, _+_, _-_, _*_, _≤_, _<_}
-use native.Mathlib.Nat.{add-zero, add-comm, le-refl, le-trans, mul-le-mul-right, mul-pos, not-suc-le-zero}
+use Prim.Native.Nat.{ℕ, zero, suc, _+_, _-_, _*_, _≤_, _<_, min}
+use native.Mathlib.Nat.{add-zero, zero-add, add-comm, le-refl, le-trans, mul-le-mul-right, mul-pos, not-suc-le-zero}
+use native.Mathlib.Numerals.{add-one}
 use native.Mathlib.Omega.{arith}
-use lib.Dec.{eqb}
-use lib.ListN.{length, drop, set, getD, length-drop}
-use lib.Seq.{drop-drop, drop-append-le, length-take-le}
+use borrow.Author.Tests.{leb-true, leb-false}
+use lib.Dec.{eqb, leb}
+use lib.ListN.{length, take, drop, set, getD, length-drop, drop-of-length-le}
+use lib.Seq.{drop-drop, drop-append-le, take-all, length-take-le}
 use Rattle.definitions.specs.Words.{from}
 use Rattle.laws.specs.Chain.{spare, blockAt, absorb, through}
-use Rattle.laws.specs.Deal.{each, dealt, finished, parallel}
+use Rattle.laws.specs.Deal.{each, leafRun, leafEnd, dealt, finished, parallel}
 use Rattle.laws.proofs.Rows.{spare-is, spare-less}
 use Rattle.laws.proofs.Chains.{through-whole, absorb-more, absorb-front, through-late}
 use Rattle.laws.proofs.Buffers.{Lawful, Late}
@@ -43,6 +45,12 @@ each-step g i zero (w ∷ ws) z h = rw add-zero
 each-step g i (suc k) (w ∷ ws) z h =
     let e : i + suc k ≡ suc i + k = omega arith in
     rw (e, each-step g (suc i) k ws z (omega arith))
+
+-- the same, as a loop's invariant goes on
+pub each-turn : {W : Type 0} (g : ℕ → W → W) (ws : List W) (i : ℕ) {out : List W} {r : W} (z : W) → i < length ws → out ≡ each g 0 i ws → r ≡ g i (getD ws i z)
+    → set out i r ≡ each g 0 (i + 1) ws
+each-turn g ws i z h e f =
+    (λ j. set (e j) i (f j)) ∙ ap (λ (k : ℕ). set (each g 0 i ws) i (g k (getD ws i z))) (sym (zero-add i)) ∙ each-step g 0 i ws z h ∙ ap (λ (k : ℕ). each g 0 k ws) (sym (add-one i))
 
 pub length-each : {W : Type 0} (g : ℕ → W → W) (i n : ℕ) (ws : List W) → length (each g i n ws) ≡ length ws
 unfolding each
@@ -82,6 +90,30 @@ module _ {W : Type 0} (bb : ℕ) (F : W → List ℕ → ℕ → Bool → Bool �
       let l : length (drop (i * bb) d) ≡ n * bb * suc k - i * bb = length-drop (i * bb) d ∙ ap (λ (m : ℕ). m - i * bb) e in
       through-whole bb F (n * bb) w t (drop (i * bb) d) k (spare-is (n * bb) 0 row (length (drop (i * bb) d)) k (omega arith) (omega arith))
       (length-take-le bb (drop (n * bb * k) (drop (i * bb) d)) (rw (length-drop (n * bb * k) (drop (i * bb) d)) (omega arith)))
+
+  -- a turn of a loop over the leaves, which cuts the input at leaf i's first block
+  module _ (ws : List W) (t : ℕ) (d : List ℕ) (i : ℕ) {out : List W} {r : W} (z : W) (all : length ws ≡ n) (h : i < n) where
+    pub dealt-turn : (k m : ℕ) → 0 < k → length d ≡ n * bb * k → m ≡ length d - i * bb → out ≡ each (leafRun bb F n t d k) 0 i ws
+        → r ≡ through bb F (n * bb) (getD ws i z) t false false (take m (drop (i * bb) d)) → set out i r ≡ each (leafRun bb F n t d k) 0 (i + 1) ws
+    dealt-turn k m some whole left e f =
+        let cut : take m (drop (i * bb) d) ≡ drop (i * bb) d = take-all m (drop (i * bb) d) (rw length-drop (omega arith)) in
+        each-turn (leafRun bb F n t d k) ws i z (omega arith) e (f ∙ ap (through bb F (n * bb) (getD ws i z) t false false) cut ∙ rows-through (getD ws i z) t d i k h some whole)
+
+    pub ended-turn : (at m : ℕ) {node : Bool} → at ≡ min (i * bb) (length d) → m ≡ length d - at → node ≡ eqb (suc i) n → out ≡ each (leafEnd bb F n t d) 0 i ws
+        → r ≡ through bb F (n * bb) (getD ws i z) t true node (take m (drop at d)) → set out i r ≡ each (leafEnd bb F n t d) 0 (i + 1) ws
+    ended-turn at m at-is left node-is e f =
+        let cut : take m (drop at d) ≡ drop (i * bb) d = rw (left, at-is) (split (leb (i * bb) (length d)) refl) in
+        each-turn (leafEnd bb F n t d) ws i z (omega arith) e (f ∙ (λ j. through bb F (n * bb) (getD ws i z) t true (node-is j) (cut j)))
+      where
+        split : (b : Bool) → leb (i * bb) (length d) ≡ b → take (length d - min (i * bb) (length d)) (drop (min (i * bb) (length d)) d) ≡ drop (i * bb) d
+        split true g =
+            let least : min (i * bb) (length d) ≡ i * bb = omega (arith, leb-true (i * bb) (length d) g) in
+            rw (least, take-all (length d - i * bb) (drop (i * bb) d) (rw length-drop (omega arith)))
+        split false g =
+            let less = leb-false (i * bb) (length d) g in
+            let least : min (i * bb) (length d) ≡ length d = omega arith in
+            let none : length d - length d ≡ 0 = omega arith in
+            rw (least, none, drop-of-length-le d {i = i * bb} (omega arith))
 
   dealt-none : (ws : List W) (t : ℕ) (d : List ℕ) → dealt bb F n ws t d 0 ≡ ws
   unfolding dealt

@@ -1,6 +1,6 @@
 -- Bytes stored behind others in a buffer that is zero from there on: what loops do that fill a buffer part by part.
 -- Assumes nothing.
-use mathlib.Core.Path.{_≡_, refl, sym, ap, _∙_}
+use mathlib.Core.Path.{_≡_, sym, ap, _∙_}
 use mathlib.Core.List.{List, [], _∷_, _++_, flatMap, append-nil, append-assoc}
 use Prim.Native.Nat.{ℕ, zero, suc, _+_, _-_, _<_}
 use native.Mathlib.Nat.{zero-add, sub-zero, not-suc-le-zero}

@@ -3,7 +3,7 @@
 use mathlib.Core.Path.{_≡_, refl, sym, ap, _∙_}
 use mathlib.Core.Bool.{Bool, true}
 use mathlib.Core.List.{List, [], _∷_, _++_, map, flatMap, foldl, append-nil, append-assoc}
-use Prim.Native.Nat.{ℕ, zero, suc, _+_, _-_, _*_, _/_, _≤_, _<_}
+use Prim.Native.Nat.{ℕ, zero, suc, _+_, _*_, _/_, _≤_, _<_}
 use native.Mathlib.Nat.{mul-comm, mul-pos, mul-add-div, not-suc-le-zero, suc-ne-zero}
 use native.Mathlib.Omega.{arith}
 use lib.Dec.{eqb}
@@ -18,7 +18,7 @@ use Rattle.definitions.proofs.Lengths.{length-pad}
 use Rattle.laws.specs.Chain.{through}
 use Rattle.laws.specs.Blocks.{onBytes, throughBlocks}
 use Rattle.laws.specs.Buffer.{Held, pending, after, closed, joined}
-use Rattle.laws.specs.Deal.{each, finished, parallel}
+use Rattle.laws.specs.Deal.{finished, parallel}
 use Rattle.laws.specs.Leaves.{rowOf, rooted, keyedRow, leafStarts, rootStart}
 use Rattle.laws.proofs.Buffers.{closed-after}
 use Rattle.laws.proofs.Calls.{untruncated-through, share-calls-through}

@@ -1,17 +1,18 @@
 -- `blake2bp::leaves::compress_to_leaves` meets its contract. The loop's invariant: the first i leaves took their blocks.
 -- Assumes nothing.
 use mathlib.Core.Path.{_≡_, refl}
-use Prim.Native.Nat.{_≤_, _<_, _-_, _+_, _*_}
+use Prim.Native.Nat.{_≤_, _-_, _*_}
 use native.Mathlib.Omega.{arith}
 use borrow.Author.Needs.{needs}
 use lib.ListN.{length, length-take, length-drop}
-use Rattle.laws.specs.Deal.{each, dealt}
-use Rattle.blake2bp.proofs.Turns.{leaf-run, dealt-turn}
+use Rattle.laws.specs.Deal.{each, leafRun, dealt}
+use Rattle.laws.proofs.Deals.{dealt-turn}
+use Rattle.blake2bp.specs.Leaves.{onLeaf}
 use Rattle.blake2bp.proofs.leaves.compress_to_leaves.Statement.{statement}
 use Rattle.blake2bp.proofs.leaves.compress_to_leaves.Tie as tie
 
 abbrev Inv-loop : tie.InvT-loop
-Inv-loop input count rows leaves out₀ i₀ out i = (i ≤ 4) × (out ≡ each (leaf-run (count .0) input rows) 0 i out₀)
+Inv-loop input count rows leaves out₀ i₀ out i = (i ≤ 4) × (out ≡ each (leafRun 128 onLeaf 4 (count .0) input rows) 0 i out₀)
 
 abbrev μ-loop : tie.MeasureT-loop
 μ-loop input count rows leaves out₀ i₀ out i = 4 - i
@@ -58,7 +59,7 @@ loop-again c =
     let l = c .before .before .before .before .loop in
     let s = c .before .before .before .before .before .before in
     let a = s .args in
-    (omega arith, dealt-turn (a .t1) (a .count .0) (a .input .now) (l .i) _ (search needs) (omega arith) (a .rows) (length (a .input .now) - l .i * 128) (s .pre .0) (s .pre .1) refl (l .inv .1) (c .run-leaf .ensures))
+    (omega arith, dealt-turn 128 onLeaf (omega arith) 4 (omega arith) (a .t1) (a .count .0) (a .input .now) (l .i) _ (search needs) (omega arith) (a .rows) (length (a .input .now) - l .i * 128) (s .pre .0) (s .pre .1) refl (l .inv .1) (c .run-leaf .ensures))
 
 returns : tie.Need-returns Inv-loop μ-loop
 unfolding dealt

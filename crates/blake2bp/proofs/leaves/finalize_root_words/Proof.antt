@@ -1,15 +1,14 @@
 -- `blake2bp::leaves::finalize_root_words` meets its contract.
 -- Assumes nothing.
-use mathlib.Core.Path.{_≡_, ap, _∙_}
+use mathlib.Core.Path.{ap, _∙_}
 use mathlib.Core.Bool.{true}
-use mathlib.Core.List.{List, map}
+use mathlib.Core.List.{List}
 use Prim.Native.Nat.{ℕ}
 use Rattle.definitions.specs.Family.{BLAKE2b}
 use Rattle.definitions.specs.Hash.{stateBytes}
 use Rattle.laws.specs.Blocks.{throughBlocks}
 use Rattle.laws.specs.Leaves.{rooted}
 use Rattle.blake2b.specs.Hash.{madeFrom}
-use Rattle.blake2bp.specs.Leaves.{wordsOf}
 use Rattle.blake2bp.proofs.Turns.{flat-words}
 use borrow.Author.Needs.{needs}
 use Rattle.blake2bp.proofs.leaves.finalize_root_words.Statement.{statement}

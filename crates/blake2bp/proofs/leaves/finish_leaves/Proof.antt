@@ -1,17 +1,19 @@
 -- `blake2bp::leaves::finish_leaves` meets its contract. The loop's invariant: the first i leaves ended.
 -- Assumes nothing.
 use mathlib.Core.Path.{_≡_, refl}
-use Prim.Native.Nat.{_≤_, _<_, _-_, _+_, _*_}
+use Prim.Native.Nat.{_≤_, _-_}
 use native.Mathlib.Omega.{arith}
 use borrow.Author.Needs.{needs}
 use lib.ListN.{length, length-take, length-drop}
-use Rattle.laws.specs.Deal.{each, finished}
-use Rattle.blake2bp.proofs.Turns.{leaf-end, ended-turn}
+use Rattle.laws.specs.Deal.{each, leafEnd, finished}
+use Rattle.laws.proofs.Deals.{ended-turn}
+use Rattle.blake2bp.specs.Leaves.{onLeaf}
+use Rattle.blake2bp.proofs.Turns.{told-node}
 use Rattle.blake2bp.proofs.leaves.finish_leaves.Statement.{statement}
 use Rattle.blake2bp.proofs.leaves.finish_leaves.Tie as tie
 
 abbrev Inv-loop : tie.InvT-loop
-Inv-loop input count leaves out₀ n i₀ out i = (i ≤ 4) × (out ≡ each (leaf-end (count .0) input) 0 i out₀)
+Inv-loop input count leaves out₀ n i₀ out i = (i ≤ 4) × (out ≡ each (leafEnd 128 onLeaf 4 (count .0) input) 0 i out₀)
 
 abbrev μ-loop : tie.MeasureT-loop
 μ-loop input count leaves out₀ n i₀ out i = 4 - i
@@ -65,7 +67,7 @@ loop-again c =
     let a = c .before .before .before .before .before .before .before .before .args in
     let node = c .before .before in
     let at = node .before .less in
-    (omega arith, ended-turn (a .t1) (a .count .0) (a .input .now) (l .i) _ (search needs) (omega arith) (at .result) (length (a .input .now) - at .result) (at .ensures) refl (node .last-node-of .ensures) (l .inv .1) (c .run-leaf .ensures))
+    (omega arith, ended-turn 128 onLeaf (omega arith) 4 (omega arith) (a .t1) (a .count .0) (a .input .now) (l .i) _ (search needs) (omega arith) (at .result) (length (a .input .now) - at .result) (at .ensures) refl (told-node (l .i) (node .last-node-of .ensures)) (l .inv .1) (c .run-leaf .ensures))
 
 returns : tie.Need-returns Inv-loop μ-loop
 unfolding finished

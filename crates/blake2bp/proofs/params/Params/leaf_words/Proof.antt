@@ -1,10 +1,10 @@
 -- `blake2bp::params::Params::leaf_words` meets its contract. The loop's invariant: the first i leaves have their words.
 -- Assumes nothing.
 use mathlib.Core.Path.{_≡_, refl, _∙_}
-use Prim.Native.Nat.{_≤_, _<_, _-_, _+_}
+use Prim.Native.Nat.{_≤_, _-_}
 use native.Mathlib.Omega.{arith}
 use borrow.Author.Needs.{needs}
-use lib.ListN.{length, replicate}
+use lib.ListN.{replicate}
 use Rattle.laws.specs.Deal.{each}
 use Rattle.blake2bp.specs.declared.leaves.Leaf.{Leaf}
 use Rattle.blake2bp.proofs.Turns.{leaf-start, start-turn, starts-made}

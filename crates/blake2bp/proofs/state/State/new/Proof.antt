@@ -2,7 +2,6 @@
 -- Assumes nothing.
 use mathlib.Core.Path.{ap, _∙_}
 use native.Mathlib.Omega.{arith}
-use Rattle.blake2bp.specs.Params.{defaults}
 use Rattle.blake2bp.specs.State.{fresh}
 use borrow.Author.Needs.{needs}
 use Rattle.blake2bp.proofs.state.State.new.Statement.{statement}

@@ -13,3 +13,8 @@ pub mod Serial
 pub mod Steps
 pub mod Lifts
 pub mod Tails
+pub mod Pastes
+pub mod Halves
+pub mod Deals
+pub mod Images
+pub mod Trees

@@ -13,7 +13,7 @@ use Rattle.laws.specs.Buffer.{Machine, Held, over, behind, pending, move
 use Rattle.laws.proofs.Buffers.{Lawful, pushed-tight}
 use Rattle.laws.proofs.Rows.{spare-is}
 
-drop-zeros : (n k : ℕ) → drop {A = ℕ} k (replicate n 0) ≡ replicate (n - k) 0
+pub drop-zeros : (n k : ℕ) → drop {A = ℕ} k (replicate n 0) ≡ replicate (n - k) 0
 drop-zeros n zero = rw sub-zero
 drop-zeros zero (suc k) = rw zero-sub
 drop-zeros (suc n) (suc k) = let e : suc n - suc k ≡ n - k = omega arith in rw e (drop-zeros n k)
@@ -33,7 +33,7 @@ unfolding over pad zeros
 over-zeros n r = ap (λ (z : List ℕ). r ++ z) (drop-zeros n (length r))
 
 -- the buffer of rows that may have gone
-buffer-padded : (n k m : ℕ) (f a : List ℕ) → over (drop (m * k) (f ++ a)) (behind n k (pad n f)) ≡ pad n (drop (m * k) (f ++ a))
+pub buffer-padded : (n k m : ℕ) (f a : List ℕ) → over (drop (m * k) (f ++ a)) (behind n k (pad n f)) ≡ pad n (drop (m * k) (f ++ a))
 unfolding behind
 buffer-padded n zero m f a = let z : m * 0 ≡ 0 = omega arith in rw z (over-padded n f a)
 buffer-padded n (suc k) m f a = over-zeros n (drop (m * suc k) (f ++ a))

@@ -1,0 +1,49 @@
+-- Whatever setters are called, the parameters that they hand back are in range, and their key has its 64 bytes.
+-- Assumes nothing.
+use mathlib.Core.Path.{_≡_, refl}
+use mathlib.Core.Bool.{Bool, true, false}
+use mathlib.Core.List.{List, [], _∷_, foldl}
+use Prim.Native.Nat.{ℕ}
+use borrow.Author.Tests.{le-leb, leb-true}
+use lib.Dec.{leb}
+use lib.ListN.{length}
+use Rattle.definitions.proofs.Lengths.{length-pad}
+use Rattle.laws.specs.Chain.{zeros}
+use Rattle.blake2b.specs.Hash.{isDigestLength}
+use Rattle.blake2bp.specs.Params.{defaults, inRange, answered, withHashLength, withKey, Setting, hash-length, key, afterSetting}
+use Rattle.blake2bp.specs.declared.params.Params.{Params}
+use Rattle.blake2bp.proofs.Setters.{digest-asked, key-short}
+
+-- what parameters out of this crate keep
+pub record Good (p : Params) : Type 0 where
+  pub ranged : inRange p ≡ true
+  pub whole : length (p .key) ≡ 64
+
+pub good-defaults : Good defaults
+unfolding inRange zeros
+good-defaults = record { ranged = refl; whole = refl }
+
+-- a refused setter leaves what was good
+good-answered : (p : Params) (ok : Bool) (refusal : ℕ) (changed : Params) → Good p → (ok ≡ true → Good changed) → Good (answered p ok refusal changed .params)
+good-answered p ok refusal changed g d = split ok refl
+  where
+    split : (b : Bool) → ok ≡ b → Good (answered p ok refusal changed .params)
+    split true e = unfold answered in rw (g .ranged, e) (d e)
+    split false e = unfold answered in rw (g .ranged, e) g
+
+good-digest : (n : ℕ) (p : Params) → Good p → isDigestLength n ≡ true → Good (withHashLength n p)
+unfolding inRange
+good-digest n p g e = record { ranged = rw (e, le-leb (p .«key_length») 64 (key-short p (g .ranged))); whole = g .whole }
+
+good-key : (k : List ℕ) (p : Params) → Good p → leb (length k) 64 ≡ true → Good (withKey k p)
+unfolding inRange
+good-key k p g e = record { ranged = rw (digest-asked p (g .ranged), e); whole = length-pad 64 k (leb-true (length k) 64 e) }
+
+good-after : (p : Params) (s : Setting) → Good p → Good (afterSetting p s)
+good-after p (hash-length n) g = good-answered p _ _ _ g (good-digest n p g)
+good-after p (key k) g = good-answered p _ _ _ g (good-key k p g)
+
+-- any setters, from the defaults
+pub settings-good : (ss : List Setting) (p : Params) → Good p → Good (foldl afterSetting p ss)
+settings-good [] p g = g
+settings-good (s ∷ ss) p g = settings-good ss (afterSetting p s) (good-after p s g)

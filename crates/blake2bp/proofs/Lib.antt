@@ -1,0 +1,11 @@
+pub mod Cleaned
+pub mod MessageCount
+pub mod OneShot
+pub mod Pieces
+pub mod Ranges
+pub mod Rows
+pub mod RunCases
+pub mod Setters
+pub mod States
+pub mod Turns
+pub mod Unique

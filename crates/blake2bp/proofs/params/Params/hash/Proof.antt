@@ -1,0 +1,85 @@
+-- `blake2bp::params::Params::hash` meets its contract.
+-- Assumes nothing.
+use mathlib.Core.Path.{_≡_, sym, ap, _∙_}
+use mathlib.Core.Bool.{true}
+use Prim.Native.Nat.{_≤_}
+use borrow.Author.Tests.{not-false}
+use lib.ListN.{length}
+use Rattle.numbers.specs.Numbers.{limit}
+use Rattle.blake2bp.specs.Params.{inRange}
+use Rattle.blake2bp.specs.State.{fresh, updated}
+use Rattle.blake2bp.specs.declared.state.State.{State}
+use Rattle.blake2bp.proofs.OneShot.{hashed-bad, hashed-past, hashed-through, hashed-straight}
+use Rattle.blake2bp.proofs.Setters.{key-short}
+use borrow.Author.Needs.{needs}
+use Rattle.blake2bp.proofs.params.Params.hash.Statement.{statement}
+use Rattle.blake2bp.proofs.params.Params.hash.Tie as tie
+
+whole : (c : tie.Start) → length (c .args .self .key) ≡ 64
+whole c = search needs
+
+few : (c : tie.Start) → length (c .args .input .now) ≤ limit
+few c = search needs
+
+abbrev begun : tie.Else1 → tie.Start
+begun c = c .before .before .before
+
+good : (c : tie.Else1) → inRange (begun c .args .self) ≡ true
+good c = let i = c .before .in-range in sym (i .ensures) ∙ not-false (i .result) (c .if1 .left)
+
+returns : tie.Need-returns
+returns c =
+    let i = c .before .before in
+    let a = i .before .before .args in
+    hashed-bad (a .self) (a .input .now) (i .in-range .ensures) (c .before .if1 .taken) (c .refused .ensures)
+
+with-params-requires : tie.Need-with-params-requires
+with-params-requires c κs = let e = c .before .before in key-short (begun e .args .self) (good e)
+
+-- what the update answers is that of the fresh state
+taken : (c : tie.After-update) → c .update .result ≡ updated (fresh (begun (c .before .before .before .before) .args .self)) (begun (c .before .before .before .before) .args .input .now)
+taken c = c .update .ensures ∙ ap (λ (s : State). updated s (begun (c .before .before .before .before) .args .input .now)) (c .before .with-params .ensures)
+
+returns-2 : tie.Need-returns-2
+returns-2 c =
+    let u = c .before .before .before in
+    let e = u .before .before .before .before in
+    let a = begun e .args in
+    hashed-past (a .self) (whole (begun e)) (good e) (a .input .now) (taken u) (c .before .if3 .taken) (c .refused2 .ensures)
+
+returns-3 : tie.Need-returns-3
+returns-3 c =
+    let i = c .before .before in
+    let u = i .before .before in
+    let e = u .before .before .before .before in
+    let a = begun e .args in
+    hashed-through (a .self) (whole (begun e)) (good e) (a .input .now) (taken u) (i .if3 .left) (c .finalize .ensures)
+
+returns-4 : tie.Need-returns-4
+returns-4 c =
+    let f = c .before in
+    let r = f .before in
+    let l = r .before in
+    let i = l .before in
+    let e = i .before .before in
+    let a = begun e .args in
+    hashed-straight (a .self) (whole (begun e)) (good e) (a .input .now) (i .if2 .left) (few (begun e)) (l .leaf-words .ensures) (r .root-words .ensures) (f .finish-leaves .ensures) (c .finalize-root-words .ensures)
+
+pub hash-spec : {M : Type 1} → statement M
+hash-spec =
+    tie.close
+    (tie.spec
+    (λ c κs. search needs)
+    (λ c κs. search needs)
+    returns
+    with-params-requires
+    (λ c κs. search needs)
+    (λ c κs. search needs)
+    returns-2
+    (λ c κs. search needs)
+    returns-3
+    (λ c κs. search needs)
+    (λ c κs. search needs)
+    (λ c κs. search needs)
+    (λ c κs. search needs)
+    returns-4)

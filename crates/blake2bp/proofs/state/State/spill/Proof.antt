@@ -1,0 +1,129 @@
+-- `blake2bp::state::State::spill` meets its contract.
+-- Assumes nothing.
+use mathlib.Core.Path.{_≡_, refl, ap, _∙_}
+use mathlib.Core.List.{_++_}
+use Prim.Native.Nat.{_+_, _-_, _<_, _≤_, _^_}
+use native.Mathlib.Nat.{sub-zero}
+use native.Mathlib.Omega.{arith}
+use denote.Ref.{now}
+use lib.ListN.{length, take, drop, length-drop}
+use Rattle.laws.specs.Chain.{spare}
+use Rattle.laws.proofs.Buffers.{Sound}
+use Rattle.laws.proofs.Halves.{spare-both, spare-half}
+use Rattle.laws.proofs.Lifts.{filled-held, filled-count, gone-held, gone-count, spill-is}
+use Rattle.blake2bp.specs.State.{machine, core, pending, moved}
+use Rattle.blake2bp.proofs.States.{store, lawful}
+use borrow.Author.Needs.{needs}
+use Rattle.blake2bp.proofs.state.State.spill.Statement.{statement}
+use Rattle.blake2bp.proofs.state.State.spill.Tie as tie
+
+-- what the entry says
+record Entry (c : tie.Start) : Type 0 where
+  sized : length (c .args .self .buf) ≡ 1024
+  held : c .args .self .«buf_len» ≤ 1024
+  more : 1024 < c .args .self .«buf_len» + length (c .args .input .now)
+  rest : 1024 - c .args .self .«buf_len» ≤ length (c .args .input .now)
+  small : c .args .self .count .0 + c .args .self .«buf_len» + length (c .args .input .now) < 2 ^ 64
+
+entry : (c : tie.Start) → Entry c
+entry c = record { sized = search needs; held = c .pre .0; more = c .pre .1; rest = omega arith; small = c .pre .2 }
+
+sound : (c : tie.Start) → Sound machine (core (c .args .self))
+sound c = record { sized = entry c .sized; held = entry c .held }
+
+-- the buffer once it was filled
+abbrev begun : tie.After-fill-buf → tie.Start
+begun c = c .before .before .before .before
+
+filled : (c : tie.After-fill-buf) → c .fill-buf .result ≡ moved (begun c .args .self) (pending (begun c .args .self) ++ take (1024 - begun c .args .self .«buf_len») (begun c .args .input .now)) 0
+filled c = rw (sub-zero (1024 - begun c .args .self .«buf_len»)) at (c .fill-buf .ensures)
+
+sized-full : (c : tie.After-fill-buf) → length (c .fill-buf .result .buf) ≡ 1024
+sized-full c = search needs
+
+-- it is full, and a row more may be counted
+full : (c : tie.After-fill-buf) → (c .fill-buf .result .«buf_len» ≡ 1024) × (c .fill-buf .result .count .0 + 1024 < 2 ^ 64)
+full c =
+    let s = begun c in
+    let e = entry s in
+    let k = filled-count store machine lawful (s .args .self) (s .args .input .now) (sound s) (e .more) (c .fill-buf .result) (filled c) in
+    (filled-held store machine lawful (s .args .self) (s .args .input .now) (sound s) (e .more) (c .fill-buf .result) (filled c), omega (arith, e .small, e .more, e .held))
+
+compress-both-requires : tie.Need-compress-both-requires
+compress-both-requires c κs = full (c .before)
+
+take-long-requires : tie.Need-take-long-requires
+take-long-requires c κs =
+    let b = c .before .compress-both in
+    let f = c .before .before .before in
+    let s = begun f in
+    let a = s .args in
+    let e = entry s in
+    let h = gone-held store machine lawful (a .self) (a .input .now) (sound s) (e .more) (f .fill-buf .result) (filled f) (sized-full f) (b .result) 2 (b .ensures) in
+    let k = gone-count store machine lawful (a .self) (a .input .now) (sound s) (e .more) (f .fill-buf .result) (filled f) (sized-full f) (b .result) 2 (b .ensures) in
+    let l = ap length (c .not-taken .ensures) ∙ length-drop (1024 - a .self .«buf_len») (a .input .now) in
+    (h, omega (arith, e .small, e .more, e .rest, e .held))
+
+returns : tie.Need-returns
+returns c =
+    let t = c .before in
+    let b = t .before .compress-both in
+    let f = t .before .before .before in
+    let s = begun f in
+    let a = s .args in
+    let e = entry s in
+    let room = 1024 - a .self .«buf_len» in
+    let x = drop room (a .input .now) in
+    let l = length-drop room (a .input .now) in
+    spill-is store machine lawful (a .self) (a .input .now) (sound s) (e .more) (f .fill-buf .result) (filled f) (sized-full f) (b .result) 2 (b .ensures)
+    (c .take-long .result) (spare 512 384 (length x)) (rw (t .not-taken .ensures) at (c .take-long .ensures)) (omega arith)
+    (spare-both 512 384 (omega arith) (omega arith) (a .self .«buf_len») (length (a .input .now)) (length x) (e .held) (e .rest) l (rw l (t .before .before .if1 .taken)))
+
+compress-half-requires : tie.Need-compress-half-requires
+compress-half-requires c κs = full (c .before)
+
+fill-buf-requires-2 : tie.Need-fill-buf-requires-2
+fill-buf-requires-2 c κs =
+    let b = c .before .compress-half in
+    let i = c .before .before in
+    let f = i .before in
+    let s = begun f in
+    let a = s .args in
+    let e = entry s in
+    let h = gone-held store machine lawful (a .self) (a .input .now) (sound s) (e .more) (f .fill-buf .result) (filled f) (sized-full f) (b .result) 1 (b .ensures) in
+    let l = ap length (c .not-taken2 .ensures) ∙ length-drop (1024 - a .self .«buf_len») (a .input .now) in
+    omega (arith, i .if1 .left)
+
+returns-2 : tie.Need-returns-2
+returns-2 c =
+    let t = c .before in
+    let b = t .before .compress-half in
+    let i = t .before .before in
+    let f = i .before in
+    let s = begun f in
+    let a = s .args in
+    let e = entry s in
+    let n = length (a .input .now) in
+    let left = n - (1024 - a .self .«buf_len») in
+    spill-is store machine lawful (a .self) (a .input .now) (sound s) (e .more) (f .fill-buf .result) (filled f) (sized-full f) (b .result) 1 (b .ensures)
+    (c .fill-buf2 .result) 0 (rw (t .not-taken2 .ensures) at (c .fill-buf2 .ensures)) (omega arith)
+    (spare-half 512 384 (omega arith) (omega arith) (a .self .«buf_len») n left (e .held) (e .rest) refl (omega (arith, e .more, e .held)) (i .if1 .left))
+
+pub spill-spec : {M : Type 1} → statement M
+spill-spec =
+    tie.close
+    (tie.spec
+    (λ c. search needs)
+    (λ c. search needs)
+    (λ c. search needs)
+    (λ c. search needs)
+    (λ c κs. search needs)
+    (λ c. search needs)
+    compress-both-requires
+    (λ c κs. search needs)
+    take-long-requires
+    returns
+    compress-half-requires
+    (λ c κs. search needs)
+    fill-buf-requires-2
+    returns-2)

@@ -1,0 +1,77 @@
+-- `blake2bp::state::State::take_long` meets its contract.
+-- Assumes nothing.
+use mathlib.Core.Path.{_≡_, refl, ap, _∙_}
+use Prim.Native.Nat.{_+_, _*_, _≤_}
+use native.Mathlib.Nat.{sub-zero}
+use native.Mathlib.Omega.{arith}
+use lib.ListN.{length, take, length-take, length-drop}
+use Rattle.laws.specs.Chain.{spare}
+use Rattle.laws.proofs.Lifts.{held-is, long-made}
+use Rattle.blake2bp.specs.State.{machine, moved}
+use Rattle.blake2bp.proofs.States.{store, lawful}
+use borrow.Author.Needs.{needs}
+use Rattle.blake2bp.proofs.state.State.take_long.Statement.{statement}
+use Rattle.blake2bp.proofs.state.State.take_long.Tie as tie
+
+-- the rows are there, and what stays fits
+rows-fit : (c : tie.After-spare-rows) → (512 * c .spare-rows .result ≤ length (c .before .before .args .input .now)) × (length (c .before .before .args .input .now) ≤ 512 * c .spare-rows .result + 896)
+unfolding spare
+rows-fit c = let e = c .spare-rows .ensures in omega arith
+
+mul-end : tie.Need-mul-end
+mul-end c = let n = rows-fit c in omega arith
+
+part-compress-rows-end : tie.Need-part-compress-rows-end
+part-compress-rows-end c = let n = rows-fit c in omega (arith, n .0)
+
+compress-rows-requires : tie.Need-compress-rows-requires
+compress-rows-requires c κs =
+    let n = rows-fit (c .before) in
+    (search needs, simp length-take (omega arith), simp length-take (omega arith))
+
+not-taken-requires : tie.Need-not-taken-requires
+not-taken-requires c κs = rows-fit (c .before .before) .0
+
+-- whole rows went, and nothing waits behind them
+gone : (c : tie.After-compress-rows) → c .compress-rows .result ≡ moved (c .before .before .before .before .args .self) (take (512 * c .before .before .spare-rows .result) (c .before .before .before .before .args .input .now)) (c .before .before .spare-rows .result)
+gone c = rw (sub-zero (512 * c .before .before .spare-rows .result)) at (c .compress-rows .ensures)
+
+emptied : (c : tie.After-compress-rows) → c .compress-rows .result .«buf_len» ≡ 0
+emptied c =
+    let q = c .before .before in
+    let a = q .before .before .args in
+    let n = rows-fit q in
+    let l : length (take (512 * q .spare-rows .result) (a .input .now)) ≡ 512 * q .spare-rows .result = simp length-take (omega arith) in
+    held-is store machine lawful (a .self) (c .compress-rows .result) (take (512 * q .spare-rows .result) (a .input .now)) (q .spare-rows .result) (gone c) ∙ omega arith
+
+fill-buf-requires : tie.Need-fill-buf-requires
+fill-buf-requires c κs =
+    let q = c .before .before .before in
+    let n = rows-fit q in
+    let z = emptied (c .before) in
+    let l = ap length (c .not-taken .ensures) ∙ length-drop (512 * q .spare-rows .result) (q .before .before .args .input .now) in
+    omega arith
+
+returns : tie.Need-returns
+returns c =
+    let t = c .before in
+    let q = t .before .before .before in
+    let a = q .before .before .args in
+    let n = rows-fit q in
+    rw (← q .spare-rows .ensures)
+    (long-made store machine lawful (a .self) (t .before .compress-rows .result) (c .fill-buf .result) (a .input .now) (q .spare-rows .result) (512 * q .spare-rows .result) refl (n .0) (q .before .before .pre .0) (gone (t .before))
+    (rw (t .not-taken .ensures) at (c .fill-buf .ensures)))
+
+pub take-long-spec : {M : Type 1} → statement M
+take-long-spec =
+    tie.close
+    (tie.spec
+    (λ c κs. search needs)
+    mul-end
+    (λ c. search needs)
+    (λ c. search needs)
+    part-compress-rows-end
+    compress-rows-requires
+    not-taken-requires
+    fill-buf-requires
+    returns)

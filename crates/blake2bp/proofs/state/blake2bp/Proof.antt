@@ -1,0 +1,26 @@
+-- `blake2bp::state::blake2bp` meets its contract.
+-- Assumes nothing.
+use mathlib.Core.Path.{ap, _∙_}
+use Prim.Native.Nat.{_≤_}
+use denote.Ref.{now}
+use lib.ListN.{length}
+use Rattle.numbers.specs.Numbers.{limit}
+use Rattle.blake2b.specs.declared.hash.HashAnswer.{HashAnswer}
+use Rattle.blake2bp.specs.State.{hashed}
+use Rattle.blake2bp.specs.declared.params.Params.{Params}
+use Rattle.blake2bp.proofs.OneShot.{hashed-defaults}
+use borrow.Author.Needs.{needs}
+use Rattle.blake2bp.proofs.state.blake2bp.Statement.{statement}
+use Rattle.blake2bp.proofs.state.blake2bp.Tie as tie
+
+few : (c : tie.Start) → length (c .args .input .now) ≤ limit
+few c = search needs
+
+returns : tie.Need-returns
+returns c =
+    let s = c .before .before .before .before in
+    let m = now (s .args .input) in
+    ap (λ (a : HashAnswer). a .hash) (c .before .hash .ensures ∙ ap (λ (p : Params). hashed p m) (c .before .before .new .ensures) ∙ hashed-defaults m (few s))
+
+pub blake2bp-spec : {M : Type 1} → statement M
+blake2bp-spec = tie.close (tie.spec (λ c κs. search needs) (λ c κs. search needs) returns)

@@ -1,0 +1,82 @@
+-- `blake2bp::state::key_row` meets its contract. The loop's invariant: the first i key blocks are stored.
+-- Assumes nothing.
+use mathlib.Core.Path.{_≡_, sym, ap, _∙_}
+use Prim.Native.Nat.{_≤_, _-_}
+use native.Mathlib.Omega.{arith}
+use borrow.Author.Needs.{needs}
+use lib.ListN.{length}
+use Rattle.definitions.specs.Words.{pad}
+use Rattle.laws.specs.Leaves.{rowOf}
+use Rattle.laws.proofs.Pastes.{pad-none, row-more}
+use Rattle.laws.proofs.Trees.{length-row}
+use Rattle.blake2bp.proofs.Turns.{filled-turn}
+use Rattle.blake2bp.proofs.state.key_row.Statement.{statement}
+use Rattle.blake2bp.proofs.state.key_row.Tie as tie
+
+abbrev Inv-loop : tie.InvT-loop
+Inv-loop block buf₀ i₀ buf i = (i ≤ 4) × (length buf ≡ 1024) × (buf ≡ pad 1024 (rowOf i block))
+
+abbrev μ-loop : tie.MeasureT-loop
+μ-loop block buf₀ i₀ buf i = 4 - i
+
+whole : (c : tie.Start Inv-loop μ-loop) → length (c .args .t1) ≡ 128
+whole c = search needs
+
+zero-buffer-requires : tie.Need-zero-buffer-requires Inv-loop μ-loop
+zero-buffer-requires c κs = search needs
+
+loop-holds : tie.Need-loop-holds Inv-loop μ-loop
+unfolding rowOf
+loop-holds c = (omega arith, search needs, c .zero-buffer .ensures ∙ sym (pad-none 1024))
+
+slice-aggregate-store : tie.Need-slice-aggregate-store Inv-loop μ-loop
+slice-aggregate-store c = search needs
+
+mul-store : tie.Need-mul-store Inv-loop μ-loop
+mul-store c = search needs
+
+slice-aggregate-store-2 : tie.Need-slice-aggregate-store-2 Inv-loop μ-loop
+slice-aggregate-store-2 c = search needs
+
+store-requires : tie.Need-store-requires Inv-loop μ-loop
+store-requires c κs =
+    let l = c .before .before .before .loop in
+    let w = whole (c .before .before .before .before .before) in
+    omega (arith, l .inv .1)
+
+add-i : tie.Need-add-i Inv-loop μ-loop
+add-i c = search needs
+
+loop-less : tie.Need-loop-less Inv-loop μ-loop
+loop-less c = search needs
+
+loop-again : tie.Need-loop-again Inv-loop μ-loop
+loop-again c =
+    let l = c .before .before .before .before .before .loop in
+    let s = c .before .before .before .before .before .before .before in
+    let b = s .args .t1 in
+    let n = length-row 128 4 (omega arith) (omega arith) b (whole s) (l .i) in
+    (omega arith, search needs, filled-turn 1024 (rowOf (l .i) b) b (l .inv .2) (sym n) (c .before .store .ensures) ∙ ap (pad 1024) (row-more (l .i) b))
+
+returns : tie.Need-returns Inv-loop μ-loop
+returns c =
+    let l = c .before .loop in
+    let e : l .i ≡ 4 = omega arith in
+    rw e at (l .inv .2)
+
+pub key-row-spec : {M : Type 1} → statement M
+key-row-spec =
+    tie.close
+    (tie.spec
+    Inv-loop
+    μ-loop
+    zero-buffer-requires
+    loop-holds
+    slice-aggregate-store
+    mul-store
+    slice-aggregate-store-2
+    store-requires
+    add-i
+    loop-less
+    loop-again
+    returns)

@@ -1,0 +1,4 @@
+pub mod Leaves
+pub mod Params
+pub mod State
+pub mod Row

@@ -1,0 +1,468 @@
+// The state of a hash that takes its message piece by piece, and the hash of a whole message.
+// The buffer holds two rows of blocks: a row goes once each leaf is known to get more.
+use crate::counts::LeafCount;
+use crate::counts::MessageCount;
+use crate::leaves::Leaf;
+use crate::leaves::compress_to_leaves;
+use crate::leaves::finalize_root_words;
+use crate::leaves::finish_leaves;
+use crate::params::Params;
+use crate::params::is_digest_length;
+use crate::store::store;
+use blake2b::Hash;
+use blake2b::HashAnswer;
+use numbers::ACCEPTED;
+use numbers::LIMIT;
+use numbers::RECORD;
+use numbers::TOTAL;
+use portable::padded;
+ghost use mathlib.Core.Path.{_≡_};
+ghost use mathlib.Core.List.{_++_};
+ghost use Prim.Native.Nat.{_+_, _*_, _^_, _<_, _≤_};
+ghost use lib.ListN.{length, drop};
+ghost use Rattle.definitions.specs.Words.{pad};
+ghost use Rattle.laws.specs.Chain.{zeros, spare};
+ghost use Rattle.laws.specs.Leaves.{rowOf};
+ghost use Rattle.blake2b.specs.Hash.{hashOf, noHash};
+ghost use Rattle.blake2bp.specs.Params.{defaults};
+ghost use Rattle.blake2bp.specs.State.{pending, moved, rangeOf, stateInRange, zeroState, fresh, opened, updated, finalized, counted, leafCounted, bufferedIn, digest, hashed};
+
+pub struct State {
+    pub(crate) leaves: [Leaf; 4],
+    pub(crate) root_words: [u64; 8],
+    // Zeros behind the bytes that wait.
+    pub(crate) buf: [u8; 1024],
+    pub(crate) buf_len: usize,
+    pub(crate) count: LeafCount,
+    pub(crate) hash_length: u8,
+    pub(crate) is_keyed: bool,
+}
+
+pub struct StateAnswer {
+    pub number: u8,
+    pub state: State,
+}
+
+pub struct CountAnswer {
+    pub number: u8,
+    pub count: MessageCount,
+}
+
+pub struct LeafCountAnswer {
+    pub number: u8,
+    pub count: LeafCount,
+}
+
+pub struct BufferedAnswer {
+    pub number: u8,
+    pub buffered: usize,
+}
+
+// Bytes in a row of blocks, one to each leaf, and in the buffer; and those that must still come, and one more, for a row to go.
+const ROW: usize = 512;
+
+const BUFFER: usize = 1024;
+
+const NEED: usize = 384;
+
+// Whether a record with these fields keeps its stated ranges.
+fn range_of(hash_length: u8, buf_len: usize, count: u64, is_keyed: bool) -> bool
+    ensures { λ r. ⌜ r ≡ rangeOf «hash_length» «buf_len» count «is_keyed» ⌝ }
+{
+    if !is_digest_length(hash_length as usize) {
+        return false;
+    }
+    if buf_len > BUFFER {
+        return false;
+    }
+    if count > LIMIT / 4 {
+        return false;
+    }
+    let gone = 4 * count;
+    let held = buf_len as u64;
+    if held > LIMIT - gone {
+        return false;
+    }
+    if is_keyed {
+        return 512 <= gone + held;
+    }
+    true
+}
+
+fn zero_buffer() -> [u8; 1024]
+    ensures { λ r. ⌜ r ≡ zeros 1024 ⌝ }
+{
+    [0; 1024]
+}
+
+// A buffer with a key block for each leaf.
+fn key_row(block: [u8; 128]) -> [u8; 1024]
+    ensures { λ r. ⌜ r ≡ pad 1024 (rowOf 4 block) ⌝ }
+{
+    let mut buf = zero_buffer();
+    let mut i: usize = 0;
+    while i < 4 {
+        store(&mut buf, i * Params::BLOCKBYTES, &block);
+        i += 1;
+    }
+    buf
+}
+
+// Of n bytes, the rows that may go so that each leaf has a byte left.
+fn spare_rows(n: usize) -> usize
+    ensures { λ r. ⌜ r ≡ spare 512 384 n ⌝ }
+{
+    if n <= NEED {
+        return 0;
+    }
+    (n - NEED - 1) / ROW
+}
+
+// The part of the input that is not yet taken, n bytes of it being.
+fn not_taken<'a>(input: &'a [u8], n: usize) -> &'a [u8]
+    requires { ⌜ n ≤ length (now input) ⌝ }
+    ensures { λ r. ⌜ now r ≡ drop n (now (input .entry)) ⌝ }
+{
+    &input[n..]
+}
+
+impl State {
+    pub fn new() -> Self
+        ensures { λ r. ⌜ r ≡ fresh defaults ⌝ }
+    {
+        let params = Params::new();
+        params.with_params()
+    }
+
+    // What a refusal answers in place of a state.
+    pub fn zero() -> Self
+        ensures { λ r. ⌜ r ≡ zeroState ⌝ }
+    {
+        let leaf = Leaf { words: [0; 8] };
+        let buf = zero_buffer();
+        let count = LeafCount(0);
+        State {
+            leaves: [leaf; 4],
+            root_words: [0; 8],
+            buf,
+            buf_len: 0,
+            count,
+            hash_length: 0,
+            is_keyed: false,
+        }
+    }
+
+    // Whether the record keeps its stated ranges.
+    pub fn in_range(self) -> bool
+        ensures { λ r. ⌜ r ≡ stateInRange self ⌝ }
+    {
+        range_of(self.hash_length, self.buf_len, self.count.0, self.is_keyed)
+    }
+
+    // The input fits the buffer.
+    fn fill_buf(self, input: &[u8]) -> Self
+        requires { ⌜ self .«buf_len» + length (now input) ≤ 1024 ⌝ }
+        ensures { λ r. ⌜ r ≡ moved self (pending self ++ now (input .entry)) 0 ⌝ }
+    {
+        let at = self.buf_len;
+        let mut buf = self.buf;
+        store(&mut buf, at, input);
+        let mut s = self;
+        s.buf = buf;
+        s.buf_len = at + input.len();
+        s
+    }
+
+    // The buffer is full, and more than 384 bytes are to come: both its rows go.
+    fn compress_both(self) -> Self
+        requires { ⌜ (self .«buf_len» ≡ 1024) × (self .count .0 + 1024 < 2 ^ 64) ⌝ }
+        ensures { λ r. ⌜ r ≡ moved self (pending self) 2 ⌝ }
+    {
+        let l = self.leaves;
+        let b = self.buf;
+        let c = self.count;
+        let leaves = compress_to_leaves(l, &b, c, 2);
+        let empty = zero_buffer();
+        let count = LeafCount(c.0 + 256);
+        let mut s = self;
+        s.leaves = leaves;
+        s.count = count;
+        s.buf = empty;
+        s.buf_len = 0;
+        s
+    }
+
+    // The buffer is full, and fewer are to come: its first row goes, and the second moves to the front.
+    fn compress_half(self) -> Self
+        requires { ⌜ (self .«buf_len» ≡ 1024) × (self .count .0 + 1024 < 2 ^ 64) ⌝ }
+        ensures { λ r. ⌜ r ≡ moved self (pending self) 1 ⌝ }
+    {
+        let l = self.leaves;
+        let b = self.buf;
+        let c = self.count;
+        let leaves = compress_to_leaves(l, &b[0..512], c, 1);
+        let mut front = zero_buffer();
+        store(&mut front, 0, &b[512..1024]);
+        let count = LeafCount(c.0 + 128);
+        let mut s = self;
+        s.leaves = leaves;
+        s.count = count;
+        s.buf = front;
+        s.buf_len = ROW;
+        s
+    }
+
+    // The buffer is empty, and the input is whole rows.
+    fn compress_rows(self, input: &[u8], rows: usize) -> Self
+        requires { ⌜ (self .«buf_len» ≡ 0) × (length (now input) ≡ 512 * rows) × (self .count .0 + length (now input) < 2 ^ 64) ⌝ }
+        ensures { λ r. ⌜ r ≡ moved self (now (input .entry)) rows ⌝ }
+    {
+        if rows == 0 {
+            return self;
+        }
+        let l = self.leaves;
+        let c = self.count;
+        let leaves = compress_to_leaves(l, input, c, rows);
+        let empty = zero_buffer();
+        let count = LeafCount(c.0 + (Params::BLOCKBYTES * rows) as u64);
+        let mut s = self;
+        s.leaves = leaves;
+        s.count = count;
+        s.buf = empty;
+        s
+    }
+
+    // The buffer is empty: all rows that may go straight from the input.
+    fn take_long(self, input: &[u8]) -> Self
+        requires { ⌜ (self .«buf_len» ≡ 0) × (self .count .0 + length (now input) < 2 ^ 64) ⌝ }
+        ensures { λ r. ⌜ r ≡ moved self (pending self ++ now (input .entry)) (spare 512 384 (length (now (input .entry)))) ⌝ }
+    {
+        let rows = spare_rows(input.len());
+        let end = ROW * rows;
+        let s = self.compress_rows(&input[0..end], rows);
+        s.fill_buf(not_taken(input, end))
+    }
+
+    // The buffer holds some and has no room for the input: it is filled, rows of it go, and the rest follows.
+    fn spill(self, input: &[u8]) -> Self
+        requires { ⌜ (self .«buf_len» ≤ 1024) × (1024 < self .«buf_len» + length (now input)) × (self .count .0 + self .«buf_len» + length (now input) < 2 ^ 64) ⌝ }
+        ensures { λ r. ⌜ r ≡ moved self (pending self ++ now (input .entry)) (spare 512 384 (self .«buf_len» + length (now (input .entry)))) ⌝ }
+    {
+        let room = BUFFER - self.buf_len;
+        let full = self.fill_buf(&input[0..room]);
+        let coming = input.len() - room;
+        if coming > NEED {
+            let s = full.compress_both();
+            return s.take_long(not_taken(input, room));
+        }
+        let s = full.compress_half();
+        s.fill_buf(not_taken(input, room))
+    }
+
+    pub fn update(self, input: &[u8]) -> StateAnswer
+        ensures { λ r. ⌜ r ≡ updated self (now (input .entry)) ⌝ }
+    {
+        let held = self.buf_len;
+        if !range_of(self.hash_length, held, self.count.0, self.is_keyed) {
+            return StateAnswer {
+                number: RECORD,
+                state: self,
+            };
+        }
+        let n = input.len();
+        let left = LIMIT - 4 * self.count.0 - (held as u64);
+        if n as u64 > left {
+            return StateAnswer {
+                number: TOTAL,
+                state: self,
+            };
+        }
+        if held == 0 {
+            let state = self.take_long(input);
+            return StateAnswer {
+                number: ACCEPTED,
+                state,
+            };
+        }
+        if n <= BUFFER - held {
+            let state = self.fill_buf(input);
+            return StateAnswer {
+                number: ACCEPTED,
+                state,
+            };
+        }
+        let state = self.spill(input);
+        StateAnswer {
+            number: ACCEPTED,
+            state,
+        }
+    }
+
+    // The state may go on: it is a copy that is asked.
+    pub fn finalize(self) -> HashAnswer
+        ensures { λ r. ⌜ r ≡ finalized self ⌝ }
+    {
+        let held = self.buf_len;
+        if !range_of(self.hash_length, held, self.count.0, self.is_keyed) {
+            return refused(RECORD);
+        }
+        let l = self.leaves;
+        let b = self.buf;
+        let leaves = finish_leaves(l, &b[0..held], self.count);
+        let root_words = self.root_words;
+        finalize_root_words(leaves, root_words, self.hash_length)
+    }
+
+    // The message bytes that came: the key blocks are not among them.
+    pub fn count(self) -> CountAnswer
+        ensures { λ r. ⌜ r ≡ counted self ⌝ }
+    {
+        if !self.in_range() {
+            let none = MessageCount(0);
+            return CountAnswer {
+                number: RECORD,
+                count: none,
+            };
+        }
+        let all = 4 * self.count.0 + self.buf_len as u64;
+        if self.is_keyed {
+            let count = MessageCount(all - 512);
+            return CountAnswer {
+                number: ACCEPTED,
+                count,
+            };
+        }
+        let count = MessageCount(all);
+        CountAnswer {
+            number: ACCEPTED,
+            count,
+        }
+    }
+
+    // What each leaf has compressed.
+    pub fn leaf_count(self) -> LeafCountAnswer
+        ensures { λ r. ⌜ r ≡ leafCounted self ⌝ }
+    {
+        if !self.in_range() {
+            let none = LeafCount(0);
+            return LeafCountAnswer {
+                number: RECORD,
+                count: none,
+            };
+        }
+        let count = self.count;
+        LeafCountAnswer {
+            number: ACCEPTED,
+            count,
+        }
+    }
+
+    // The bytes that wait.
+    pub fn buffered(self) -> BufferedAnswer
+        ensures { λ r. ⌜ r ≡ bufferedIn self ⌝ }
+    {
+        if !self.in_range() {
+            return BufferedAnswer {
+                number: RECORD,
+                buffered: 0,
+            };
+        }
+        BufferedAnswer {
+            number: ACCEPTED,
+            buffered: self.buf_len,
+        }
+    }
+}
+
+fn refused(number: u8) -> HashAnswer
+    ensures { λ r. ⌜ r ≡ noHash number ⌝ }
+{
+    HashAnswer {
+        number,
+        hash: Hash::zero(),
+    }
+}
+
+impl Params {
+    // The state of no message bytes: a row of key blocks waits in the buffer where there is a key.
+    pub(crate) fn with_params(self) -> State
+        requires { ⌜ self .«key_length» ≤ 64 ⌝ }
+        ensures { λ r. ⌜ r ≡ fresh self ⌝ }
+    {
+        let leaves = self.leaf_words();
+        let root_words = self.root_words();
+        let count = LeafCount(0);
+        if self.key_length > 0 {
+            let key = self.key;
+            let n = self.key_length as usize;
+            let buf = key_row(padded(&key[0..n]));
+            return State {
+                leaves,
+                root_words,
+                buf,
+                buf_len: ROW,
+                count,
+                hash_length: self.hash_length,
+                is_keyed: true,
+            };
+        }
+        let buf = zero_buffer();
+        State {
+            leaves,
+            root_words,
+            buf,
+            buf_len: 0,
+            count,
+            hash_length: self.hash_length,
+            is_keyed: false,
+        }
+    }
+
+    pub fn to_state(self) -> StateAnswer
+        ensures { λ r. ⌜ r ≡ opened self ⌝ }
+    {
+        if !self.in_range() {
+            let state = State::zero();
+            return StateAnswer {
+                number: RECORD,
+                state,
+            };
+        }
+        let state = self.with_params();
+        StateAnswer {
+            number: ACCEPTED,
+            state,
+        }
+    }
+
+    // The digest of a whole message. Without a key it goes straight to the leaves.
+    pub fn hash(self, input: &[u8]) -> HashAnswer
+        ensures { λ r. ⌜ r ≡ hashed self (now (input .entry)) ⌝ }
+    {
+        if !self.in_range() {
+            return refused(RECORD);
+        }
+        if self.key_length > 0 {
+            let taken = self.with_params().update(input);
+            if taken.number != ACCEPTED {
+                return refused(TOTAL);
+            }
+            let state = taken.state;
+            return state.finalize();
+        }
+        let start = self.leaf_words();
+        let root_words = self.root_words();
+        let none = LeafCount(0);
+        let leaves = finish_leaves(start, input, none);
+        finalize_root_words(leaves, root_words, self.hash_length)
+    }
+}
+
+// The digest of a message with the default parameters.
+pub fn blake2bp(input: &[u8]) -> Hash
+    ensures { λ r. ⌜ r ≡ hashOf (digest defaults (now (input .entry))) ⌝ }
+{
+    let params = Params::new();
+    let done = params.hash(input);
+    done.hash
+}

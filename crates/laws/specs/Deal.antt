@@ -1,0 +1,35 @@
+-- Blocks dealt to n leaves in turn, as BLAKE2bp and BLAKE2sp do: the machine of n leaves, over any compression F.
+-- Assumes nothing.
+use mathlib.Core.Bool.{Bool, true}
+use mathlib.Core.List.{List, [], _∷_}
+use Prim.Native.Nat.{ℕ, zero, suc, _-_, _*_}
+use lib.Dec.{eqb}
+use lib.ListN.{drop}
+use Rattle.laws.specs.Chain.{absorb, through}
+use Rattle.laws.specs.Buffer.{Machine}
+
+-- g, at its number, of each of n members, the first having the number i
+unfoldable pub each : {W : Type 0} → (ℕ → W → W) → ℕ → ℕ → List W → List W
+each g i zero ws = ws
+each g i (suc n) [] = []
+each g i (suc n) (w ∷ ws) = g i w ∷ each g (suc i) n ws
+
+module _ {W : Type 0} (bb : ℕ) (F : W → List ℕ → ℕ → Bool → Bool → W) (n : ℕ) where
+  -- leaf i over k rows of d; and over all of d, where the last leaf is the last node
+  abbrev pub leafRun : ℕ → List ℕ → ℕ → ℕ → W → W
+  leafRun t d k i w = absorb bb F (n * bb) w t (drop (i * bb) d) k
+
+  abbrev pub leafEnd : ℕ → List ℕ → ℕ → W → W
+  leafEnd t d i w = through bb F (n * bb) w t true (eqb (suc i) n) (drop (i * bb) d)
+
+  -- k rows of n blocks, a block to each leaf
+  unfoldable pub dealt : List W → ℕ → List ℕ → ℕ → List W
+  dealt ws t d k = each (leafRun t d k) 0 n ws
+
+  -- the leaves once d is all that comes
+  unfoldable pub finished : List W → ℕ → List ℕ → List W
+  finished ws t d = each (leafEnd t d) 0 n ws
+
+  -- n leaves: a row goes where each leaf has a byte left, and the buffer has room for two rows
+  abbrev pub parallel : Machine (List W)
+  parallel = record { row = n * bb; step = bb; need = (n - 1) * bb; room = 2 * (n * bb); run = dealt }

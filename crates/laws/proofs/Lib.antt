@@ -5,6 +5,7 @@ pub mod Schedule
 pub mod Compression
 pub mod Rows
 pub mod Chains
+pub mod Fronts
 pub mod Shares
 pub mod Calls
 pub mod Offsets

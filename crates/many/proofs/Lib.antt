@@ -1,6 +1,5 @@
 pub mod Batches
 pub mod Firsts
-pub mod Fronts
 pub mod Jobs
 pub mod Mapped
 pub mod Outcomes

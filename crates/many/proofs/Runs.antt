@@ -22,7 +22,7 @@ use Rattle.blake2b.proofs.OneShot.{digest-asked}
 use Rattle.blake2b.proofs.Pushes.{length-front}
 use Rattle.many.specs.Job.{noJob, jobInRange, keyBytes, firstWords, begun, madeJob, ran, inputOf, runOver, jobRefusal, jobHash}
 use Rattle.many.specs.declared.job.HashManyJob.{HashManyJob}
-use Rattle.many.proofs.Fronts.{through-behind}
+use Rattle.laws.proofs.Fronts.{through-behind}
 use Rattle.many.proofs.Jobs.{run-finished, run-unfinished, accepted-inside, refusal-finished}
 
 module _ (d : List ℕ) (j : HashManyJob) where

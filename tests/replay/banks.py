@@ -285,6 +285,8 @@ def orders():
                 records = [(5 - i % 5, 10 * i, 20) for i in range(BATCH)]
                 records[index], records[index + 1] = first, second
                 table.update_many(records, data)
+    for last in bad:
+        table.update_many([(5 - i % 5, 10 * i, 20) for i in range(BATCH - 1)] + [last], data)
     table.show_all()
 
 

@@ -118,6 +118,11 @@ def all_parameters():
         say("state finalize", digest_answer(hashlib.blake2b(data, **other).hexdigest()))
         say("state update c:300:0")
         say("state finalize", digest_answer(hashlib.blake2b(data + more, **other).hexdigest()))
+    note("every digest length")
+    for digest_size in range(1, 65):
+        say("params hash_length %d" % digest_size)
+        digest = hashlib.blake2b(more, **dict(setting, digest_size=digest_size)).hexdigest()
+        say("hash c:300:0", digest_answer(digest))
     note("the longest message")
     say("blake2b g:4194304:7", digest_answer(hashlib.blake2b(generated(4194304, 7)).hexdigest()))
 
@@ -133,9 +138,12 @@ def refusals():
     setting = dict(digest_size=20, key=bytes(range(1, 65)), salt=bytes(range(2, 18)), person=bytes(range(3, 19)),
                    inner_size=64)
     digest = hashlib.blake2b(b"abc", **setting).hexdigest()
-    for line, number in [("hash_length 0", 1), ("hash_length 65", 1), ("hash_length 18446744073709551615", 1),
-                         ("key c:65:0", 2), ("key c:4194304:0", 2), ("salt c:17:0", 3), ("personal c:17:0", 4),
-                         ("inner_hash_length 65", 5), ("inner_hash_length 18446744073709551615", 5)]:
+    # Some of the numbers would be taken if only their low 8, 16 or 32 bits were looked at.
+    for line, number in [("hash_length %d" % n, 1) for n in (0, 65, 256 + 64, 2**16 + 32, 2**32 + 32, 2**64 - 1)] + \
+                        [("key c:%d:0" % n, 2) for n in (65, 256 + 64, 2**16 + 1, 2**22)] + \
+                        [("salt c:%d:0" % n, 3) for n in (17, 256 + 16, 2**16)] + \
+                        [("personal c:%d:0" % n, 4) for n in (17, 256 + 16, 2**16)] + \
+                        [("inner_hash_length %d" % n, 5) for n in (65, 256 + 64, 2**16, 2**32, 2**64 - 1)]:
         say("params " + line, "number=%d" % number)
         say("hash x:616263", digest_answer(digest))
     note("a shorter key, salt or personalization leaves nothing of the longer one")

@@ -188,6 +188,10 @@ def orders(places):
             places.run(16, batch)
             places.run(first, batch)
             places.run(17, batch)
+    for zero, long in ([15], []), ([], [15]):
+        mixed(places, zero, long)
+        places.run(16, batch)
+        places.run(15, batch)
     note("a finished job is not checked for 9, and an unfinished one behind it is")
     mixed(places, [], [])
     places.run(8, batch)

@@ -1,5 +1,5 @@
 // A line of a script: a call of this crate's table, or a line that crate replay answers.
-// What is no call of either is answered by crate replay too, and changes nothing.
+// A line whose name is not in this crate's table goes to crate replay.
 use crate::banks;
 use crate::jobs;
 use crate::session::Reply;

@@ -1,7 +1,7 @@
 -- States: what waits and what has gone, the state that bytes lead to, and what each call answers.
 -- Assumes nothing.
 use mathlib.Core.Bool.{Bool, false, cond, _&&_}
-use mathlib.Core.List.{List, [], map}
+use mathlib.Core.List.{List, [], map, foldl}
 use Prim.Native.Nat.{ℕ, _+_, _-_, _*_}
 use lib.Dec.{leb}
 use lib.ListN.{length, take, replicate}
@@ -98,6 +98,10 @@ fresh p = record {
   «hash_length» = p .«hash_length»;
   «is_keyed» = leb 1 (p .«key_length»);
 }
+
+-- the state of a message that came in these pieces
+abbrev pub reached : Params → List (List ℕ) → State
+reached p ps = foldl pushed (fresh p) ps
 
 unfoldable pub opened : Params → StateAnswer
 opened p = cond (inRange p) (record { number = accepted; state = fresh p }) (record { number = bad-record; state = zeroState })

@@ -12,11 +12,11 @@ use Rattle.laws.proofs.Buffers.{Sound}
 use Rattle.laws.proofs.TwoRows.{pushed-nothing}
 use Rattle.numbers.specs.Numbers.{accepted, limit}
 use Rattle.blake2b.specs.Hash.{hashOf}
-use Rattle.blake2bp.specs.State.{core, holding, machine, pushed, total, stateInRange, front, fresh, reached, finalized, counted, digest}
+use Rattle.blake2bp.specs.State.{core, holding, machine, pushed, total, stateInRange, keyBytes, fresh, reached, finalized, counted, digest}
 use Rattle.blake2bp.specs.declared.params.Params.{Params}
 use Rattle.blake2bp.specs.declared.state.State.{State}
 use Rattle.blake2bp.proofs.Cleaned.{Good}
-use Rattle.blake2bp.proofs.Pieces.{length-front, total-fresh, sound-fresh, range-fresh, total-pieces, range-pieces, digest-of-pieces}
+use Rattle.blake2bp.proofs.Pieces.{total-fresh, sound-fresh, range-fresh, total-pieces, range-pieces, digest-of-pieces}
 use Rattle.blake2bp.proofs.Setters.{digest-asked, key-short}
 use Rattle.blake2bp.proofs.States.{lawful}
 
@@ -31,8 +31,8 @@ module _ (p : Params) (good : Good p) where
   short : p .«key_length» ≤ 64
   short = key-short p (good .ranged)
 
-  module _ (ps : List (List ℕ)) (within : length (front p) + length (joined ps) ≤ limit) where
-    pub total-reached : total (reached p ps) ≡ length (front p) + length (joined ps)
+  module _ (ps : List (List ℕ)) (within : keyBytes p + length (joined ps) ≤ limit) where
+    pub total-reached : total (reached p ps) ≡ keyBytes p + length (joined ps)
     total-reached = total-pieces (fresh p) ps (sound-fresh p (good .whole) short) ∙ ap (λ (n : ℕ). n + length (joined ps)) (total-fresh p (good .whole) short)
 
     pub range-reached : stateInRange (reached p ps) ≡ true
@@ -57,5 +57,5 @@ module _ (p : Params) (good : Good p) where
     count-in-any-cuts =
         let n : total (reached p ps) - cond (reached p ps .«is_keyed») 512 0 ≡ length (joined ps) =
         ap (λ (b : Bool). total (reached p ps) - cond b 512 0) keyed-flag
-        ∙ minus (cond (leb 1 (p .«key_length»)) 512 0) (length (joined ps)) (total (reached p ps)) (total-reached ∙ ap (λ (k : ℕ). k + length (joined ps)) (length-front p (good .whole) short)) in
+        ∙ minus (keyBytes p) (length (joined ps)) (total (reached p ps)) total-reached in
         rw (range-reached, n)

@@ -28,7 +28,7 @@ use Rattle.blake2b.specs.Hash.{isDigestLength}
 use Rattle.blake2b.proofs.Digests.{digest-length-bounds}
 use Rattle.blake2bp.specs.Leaves.{leafOf, wordsOf, onLeaf}
 use Rattle.blake2bp.specs.Params.{keyOf}
-use Rattle.blake2bp.specs.State.{core, holding, machine, pending, pushed, total, stateInRange, front, fresh, reached, closedDigest, digest}
+use Rattle.blake2bp.specs.State.{core, holding, machine, pending, pushed, total, stateInRange, front, keyBytes, fresh, reached, closedDigest, digest}
 use Rattle.blake2bp.specs.declared.leaves.Leaf.{Leaf}
 use Rattle.blake2bp.specs.declared.params.Params.{Params}
 use Rattle.blake2bp.specs.declared.state.State.{State}
@@ -83,10 +83,10 @@ module _ (p : Params) (whole : length (p .key) ≡ 64) (short : p .«key_length�
   length-keyed : 0 < p .«key_length» → length (front p) ≡ 512
   length-keyed h = ap length (front-keyed h) ∙ length-row 128 4 (omega arith) (omega arith) (pad 128 (keyOf p)) (length-pad 128 (keyOf p) key-fits) 4
 
-  pub length-front : length (front p) ≡ cond (leb 1 (p .«key_length»)) 512 0
+  pub length-front : length (front p) ≡ keyBytes p
   length-front = split (leb 1 (p .«key_length»)) refl
     where
-      split : (b : Bool) → leb 1 (p .«key_length») ≡ b → length (front p) ≡ cond (leb 1 (p .«key_length»)) 512 0
+      split : (b : Bool) → leb 1 (p .«key_length») ≡ b → length (front p) ≡ keyBytes p
       split true e = rw e (length-keyed (leb-true 1 (p .«key_length») e))
       split false e = let none = leb-false 1 (p .«key_length») e in rw e (ap length (front-plain (omega arith)))
 
@@ -119,8 +119,8 @@ module _ (p : Params) (whole : length (p .key) ≡ 64) (short : p .«key_length�
   pub sound-fresh : Sound machine (core (fresh p))
   sound-fresh = let f = front-short in record { sized = length-pad 1024 (front p) (omega arith); held = omega arith }
 
-  pub total-fresh : total (fresh p) ≡ length (front p)
-  total-fresh = zero-add (length (front p))
+  pub total-fresh : total (fresh p) ≡ keyBytes p
+  total-fresh = zero-add (length (front p)) ∙ length-front
 
   pub range-fresh : isDigestLength (p .«hash_length») ≡ true → stateInRange (fresh p) ≡ true
   range-fresh e =

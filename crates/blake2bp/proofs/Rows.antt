@@ -13,14 +13,14 @@ use Rattle.numbers.specs.Numbers.{accepted, total-over, limit}
 use Rattle.blake2b.specs.Row.{Call, update, digest, count, Answer, taken, digested}
 use Rattle.blake2b.proofs.Digests.{digest-of-hash}
 use Rattle.blake2bp.specs.Params.{keyOf}
-use Rattle.blake2bp.specs.State.{pushed, total, front, fresh, reached, updated}
+use Rattle.blake2bp.specs.State.{pushed, total, keyBytes, fresh, reached, updated}
 use Rattle.blake2bp.specs.State as state
 use Rattle.blake2bp.specs.Row.{stateSays, stateAnswers, rowTotal, rowSays, rowAnswers}
 use Rattle.blake2bp.specs.declared.params.Params.{Params}
 use Rattle.blake2bp.specs.declared.state.State.{State}
 use Rattle.blake2bp.proofs.AnyCuts.{total-reached, range-reached, digest-in-any-cuts, count-in-any-cuts}
 use Rattle.blake2bp.proofs.Cleaned.{Good}
-use Rattle.blake2bp.proofs.Pieces.{length-key, length-front, front-short}
+use Rattle.blake2bp.proofs.Pieces.{length-key}
 use Rattle.blake2bp.proofs.Setters.{key-short}
 
 -- one piece more
@@ -34,11 +34,11 @@ module _ (p : Params) (good : Good p) where
   short = key-short p (good .ranged)
 
   -- key block bytes and message bytes
-  row-total : (bytes : List ℕ) → length (front p) + length bytes ≡ rowTotal (p .«hash_length») (keyOf p) bytes
+  row-total : (bytes : List ℕ) → keyBytes p + length bytes ≡ rowTotal (p .«hash_length») (keyOf p) bytes
   row-total bytes =
-      ap (λ (n : ℕ). n + length bytes) (length-front p (good .whole) short ∙ ap (λ (n : ℕ). cond (leb 1 n) 512 0) (sym (length-key p (good .whole) short)))
+      ap (λ (n : ℕ). cond (leb 1 n) 512 0 + length bytes) (sym (length-key p (good .whole) short))
 
-  module _ (ps : List (List ℕ)) (within : length (front p) + length (joined ps) ≤ limit) where
+  module _ (ps : List (List ℕ)) (within : keyBytes p + length (joined ps) ≤ limit) where
     tested : (a : List ℕ) → leb (total (reached p ps) + length a) limit ≡ leb (rowTotal (p .«hash_length») (keyOf p) (joined ps) + length a) limit
     tested a = ap (λ (n : ℕ). leb (n + length a) limit) (total-reached p good ps within ∙ row-total (joined ps))
 
@@ -60,7 +60,7 @@ module _ (p : Params) (good : Good p) where
 
   -- the answers from some pieces on agree
   Agree : List Call → Type 0
-  Agree cs = (ps : List (List ℕ)) → length (front p) + length (joined ps) ≤ limit → stateAnswers (reached p ps) cs ≡ rowAnswers (p .«hash_length») (keyOf p) (joined ps) cs
+  Agree cs = (ps : List (List ℕ)) → keyBytes p + length (joined ps) ≤ limit → stateAnswers (reached p ps) cs ≡ rowAnswers (p .«hash_length») (keyOf p) (joined ps) cs
 
   -- an update whose test and answer are known, and the answers that follow it
   turn : (a : List ℕ) (ps : List (List ℕ)) (cs : List Call) (b : Bool) (t : State) → leb (rowTotal (p .«hash_length») (keyOf p) (joined ps) + length a) limit ≡ b
@@ -84,7 +84,7 @@ module _ (p : Params) (good : Good p) where
           let j = joined-more ps a in
           let n = ap length j ∙ length-append (joined ps) a in
           let t = row-total (joined ps) in
-          let fits : length (front p) + length (joined more) ≤ limit = omega (arith, leb-true (rowTotal (p .«hash_length») (keyOf p) (joined ps) + length a) limit e) in
+          let fits : keyBytes p + length (joined more) ≤ limit = omega (arith, leb-true (rowTotal (p .«hash_length») (keyOf p) (joined ps) + length a) limit e) in
           turn a ps cs true (reached p more) e (updated-accepted ps within a e) (rest more fits ∙ ap (λ (l : List ℕ). rowAnswers (p .«hash_length») (keyOf p) l cs) j)
       split false e = turn a ps cs false (reached p ps) e (updated-refused ps within a e) (rest ps within)
 
@@ -98,4 +98,8 @@ module _ (p : Params) (good : Good p) where
   -- THE history theorem of one state
   pub history : (cs : List Call) → stateAnswers (fresh p) cs ≡ rowAnswers (p .«hash_length») (keyOf p) [] cs
   unfolding Agree joined
-  history cs = let f = front-short p (good .whole) short in agree cs [] (omega arith)
+  history cs = agree cs [] (few (leb 1 (p .«key_length»)))
+    where
+      few : (b : Bool) → cond b 512 0 + 0 ≤ limit
+      few true = omega arith
+      few false = omega arith

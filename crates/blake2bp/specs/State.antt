@@ -87,6 +87,10 @@ zeroState = record {
 abbrev pub front : Params → List ℕ
 front p = keyedRow BLAKE2b 4 (keyOf p) []
 
+-- and what it adds to the total
+abbrev pub keyBytes : Params → ℕ
+keyBytes p = cond (leb 1 (p .«key_length»)) 512 0
+
 -- the state of no message bytes: the row of key blocks waits where there is a key
 abbrev pub fresh : Params → State
 fresh p = record {
@@ -140,5 +144,5 @@ digest p m = BLAKE2bp (p .«hash_length») (keyOf p) m
 unfoldable pub hashed : Params → List ℕ → HashAnswer
 hashed p m =
     cond (inRange p)
-    (cond (leb (length (front p) + length m) limit) (record { number = accepted; hash = hashOf (digest p m) }) (noHash total-over))
+    (cond (leb (keyBytes p + length m) limit) (record { number = accepted; hash = hashOf (digest p m) }) (noHash total-over))
     (noHash bad-record)

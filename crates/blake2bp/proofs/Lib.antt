@@ -1,3 +1,4 @@
+pub mod AnyCuts
 pub mod Cleaned
 pub mod MessageCount
 pub mod OneShot

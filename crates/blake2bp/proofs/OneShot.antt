@@ -22,12 +22,12 @@ use Rattle.blake2b.specs.declared.hash.HashAnswer.{HashAnswer}
 use Rattle.blake2b.proofs.States.{made-hash}
 use Rattle.blake2bp.specs.Leaves.{leafOf, wordsOf, onLeaf}
 use Rattle.blake2bp.specs.Params.{defaults, inRange, keyOf}
-use Rattle.blake2bp.specs.State.{pushed, total, stateInRange, front, fresh, updated, finalized, digest, hashed}
+use Rattle.blake2bp.specs.State.{pushed, total, stateInRange, keyBytes, fresh, updated, finalized, digest, hashed}
 use Rattle.blake2bp.specs.declared.leaves.Leaf.{Leaf}
 use Rattle.blake2bp.specs.declared.params.Params.{Params}
 use Rattle.blake2bp.specs.declared.state.StateAnswer.{StateAnswer}
 use Rattle.blake2bp.proofs.Cleaned.{good-defaults}
-use Rattle.blake2bp.proofs.Pieces.{length-key, key-fits, front-plain, total-fresh, sound-fresh, range-fresh, range-pieces, digest-of-pieces, leaf-words}
+use Rattle.blake2bp.proofs.Pieces.{length-key, key-fits, total-fresh, sound-fresh, range-fresh, range-pieces, digest-of-pieces, leaf-words}
 use Rattle.blake2bp.proofs.Setters.{digest-asked, key-short}
 use Rattle.blake2bp.proofs.Turns.{words-on-leaf}
 
@@ -43,40 +43,40 @@ module _ (p : Params) (whole : length (p .key) ≡ 64) (good : inRange p ≡ tru
   in-range-fresh = range-fresh p whole short (digest-asked p good)
 
   -- one update of a fresh state, and then the digest
-  pub updated-within : length (front p) + length m ≤ limit → updated (fresh p) m ≡ record { number = accepted; state = pushed (fresh p) m }
+  pub updated-within : keyBytes p + length m ≤ limit → updated (fresh p) m ≡ record { number = accepted; state = pushed (fresh p) m }
   unfolding updated
-  updated-within h = rw (in-range-fresh, total-fresh p whole short, le-leb (length (front p) + length m) limit h)
+  updated-within h = rw (in-range-fresh, total-fresh p whole short, le-leb (keyBytes p + length m) limit h)
 
-  pub finalized-within : length (front p) + length m ≤ limit → finalized (pushed (fresh p) m) ≡ record { number = accepted; hash = hashOf (digest p m) }
+  pub finalized-within : keyBytes p + length m ≤ limit → finalized (pushed (fresh p) m) ≡ record { number = accepted; hash = hashOf (digest p m) }
   unfolding finalized
   finalized-within h =
       let n : total (fresh p) + length (joined (m ∷ [])) ≤ limit = rw (total-fresh p whole short, joined-one m) h in
       let r : stateInRange (pushed (fresh p) m) ≡ true = range-pieces (fresh p) (m ∷ []) (sound-fresh p whole short) in-range-fresh n in
       rw r (ap (λ (d : List ℕ). record { number = accepted; hash = hashOf d }) (digest-of-pieces p whole short (m ∷ []) ∙ ap (digest p) (joined-one m)))
 
-  pub updated-past : limit < length (front p) + length m → updated (fresh p) m ≡ record { number = total-over; state = fresh p }
+  pub updated-past : limit < keyBytes p + length m → updated (fresh p) m ≡ record { number = total-over; state = fresh p }
   unfolding updated
-  updated-past h = rw (in-range-fresh, total-fresh p whole short, lt-leb (length (front p) + length m) limit h)
+  updated-past h = rw (in-range-fresh, total-fresh p whole short, lt-leb (keyBytes p + length m) limit h)
 
   -- so through a state: a refusal of the update is that of the hash
   pub hashed-past : {u : StateAnswer} {r : HashAnswer} → u ≡ updated (fresh p) m → (u .number ≡ accepted → ⊥) → r ≡ noHash total-over → r ≡ hashed p m
   unfolding hashed
-  hashed-past {u} {r} e f g = split (leb (length (front p) + length m) limit) refl
+  hashed-past {u} {r} e f g = split (leb (keyBytes p + length m) limit) refl
     where
-      split : (b : Bool) → leb (length (front p) + length m) limit ≡ b → r ≡ hashed p m
-      split true h = absurd (f (ap (λ (v : StateAnswer). v .number) (e ∙ updated-within (leb-true (length (front p) + length m) limit h))))
+      split : (b : Bool) → leb (keyBytes p + length m) limit ≡ b → r ≡ hashed p m
+      split true h = absurd (f (ap (λ (v : StateAnswer). v .number) (e ∙ updated-within (leb-true (keyBytes p + length m) limit h))))
       split false h = rw (good, h) g
 
   pub hashed-through : {u : StateAnswer} {r : HashAnswer} → u ≡ updated (fresh p) m → u .number ≡ accepted → r ≡ finalized (u .state) → r ≡ hashed p m
   unfolding hashed
-  hashed-through {u} {r} e f g = split (leb (length (front p) + length m) limit) refl
+  hashed-through {u} {r} e f g = split (leb (keyBytes p + length m) limit) refl
     where
-      split : (b : Bool) → leb (length (front p) + length m) limit ≡ b → r ≡ hashed p m
+      split : (b : Bool) → leb (keyBytes p + length m) limit ≡ b → r ≡ hashed p m
       split true h =
-          let w = leb-true (length (front p) + length m) limit h in
+          let w = leb-true (keyBytes p + length m) limit h in
           rw (good, h) (g ∙ ap (λ (v : StateAnswer). finalized (v .state)) (e ∙ updated-within w) ∙ finalized-within w)
       split false h =
-          let z : total-over ≡ accepted = sym (ap (λ (v : StateAnswer). v .number) (e ∙ updated-past (leb-false (length (front p) + length m) limit h))) ∙ f in
+          let z : total-over ≡ accepted = sym (ap (λ (v : StateAnswer). v .number) (e ∙ updated-past (leb-false (keyBytes p + length m) limit h))) ∙ f in
           absurd (omega arith)
 
   -- and straight from the leaves, where there is no key
@@ -91,15 +91,15 @@ module _ (p : Params) (whole : length (p .key) ≡ 64) (good : inRange p ≡ tru
       let ended = ap (map wordsOf) ends ∙ finished-image wordsOf 128 onLeaf (onBytes BLAKE2b) words-on-leaf 4 ls 0 m ∙ (λ i. finished 128 (onBytes BLAKE2b) 4 (starts i) 0 (sym row i)) in
       let tree : take d (rooted BLAKE2b w (map wordsOf es)) ≡ digest p m =
       (λ i. take d (rooted BLAKE2b ((root ∙ ap (rootStart BLAKE2b 4 d) (sym k)) i) (ended i))) ∙ rooted-is-tree BLAKE2b (omega arith) 4 (omega arith) d (keyOf p) m (key-fits p whole short) in
-      let z : length (front p) ≡ 0 = ap length (front-plain p whole short none) in
+      let z : keyBytes p ≡ 0 = rw (lt-leb 1 (p .«key_length») (omega arith)) in
       rw (good, z, zero-add (length m), le-leb (length m) limit few)
       (made-hash d (rooted BLAKE2b w (map wordsOf es)) (digest-asked p good) made ∙ ap (λ (x : List ℕ). record { number = accepted; hash = hashOf x }) tree)
 
   -- the one-shot answer is that of a state that took the message, with a key or without
-  pub one-shot-is-incremental : length (front p) + length m ≤ limit → hashed p m ≡ finalized (updated (fresh p) m .state)
+  pub one-shot-is-incremental : keyBytes p + length m ≤ limit → hashed p m ≡ finalized (updated (fresh p) m .state)
   unfolding hashed
   one-shot-is-incremental within =
-      rw (good, le-leb (length (front p) + length m) limit within) (sym (ap (λ (a : StateAnswer). finalized (a .state)) (updated-within within) ∙ finalized-within within))
+      rw (good, le-leb (keyBytes p + length m) limit within) (sym (ap (λ (a : StateAnswer). finalized (a .state)) (updated-within within) ∙ finalized-within within))
 
 pub hashed-bad : (p : Params) (m : List ℕ) {r : HashAnswer} {good : Bool} → good ≡ inRange p → not good ≡ true → r ≡ noHash bad-record → r ≡ hashed p m
 unfolding hashed
@@ -108,6 +108,4 @@ hashed-bad p m {good = good} e h g = rw (sym e ∙ not-true good h) g
 -- the default parameters are never refused
 pub hashed-defaults : (m : List ℕ) → length m ≤ limit → hashed defaults m ≡ record { number = accepted; hash = hashOf (digest defaults m) }
 unfolding hashed
-hashed-defaults m h =
-    let z : length (front defaults) ≡ 0 = ap length (front-plain defaults (good-defaults .whole) (omega arith) (omega arith)) in
-    rw (good-defaults .ranged, z, zero-add (length m), le-leb (length m) limit h)
+hashed-defaults m h = rw (good-defaults .ranged, zero-add (length m), le-leb (length m) limit h)

@@ -20,7 +20,7 @@ use Rattle.laws.specs.Deal.{finished}
 use Rattle.laws.specs.Leaves.{rowOf, rooted, leafStarts, rootStart}
 use Rattle.laws.proofs.Buffers.{Sound}
 use Rattle.laws.proofs.Buffers as buffers
-use Rattle.laws.proofs.Halves as halves
+use Rattle.laws.proofs.TwoRows as two-rows
 use Rattle.laws.proofs.Pastes.{pad-none}
 use Rattle.laws.proofs.Trees.{length-row, row-some, row-none, tree-any-cuts}
 use Rattle.numbers.specs.Numbers.{limit}
@@ -28,7 +28,7 @@ use Rattle.blake2b.specs.Hash.{isDigestLength}
 use Rattle.blake2b.proofs.Digests.{digest-length-bounds}
 use Rattle.blake2bp.specs.Leaves.{leafOf, wordsOf, onLeaf}
 use Rattle.blake2bp.specs.Params.{keyOf}
-use Rattle.blake2bp.specs.State.{core, holding, machine, pending, pushed, total, stateInRange, front, fresh, closedDigest, digest}
+use Rattle.blake2bp.specs.State.{core, holding, machine, pending, pushed, total, stateInRange, front, keyBytes, fresh, reached, closedDigest, digest}
 use Rattle.blake2bp.specs.declared.leaves.Leaf.{Leaf}
 use Rattle.blake2bp.specs.declared.params.Params.{Params}
 use Rattle.blake2bp.specs.declared.state.State.{State}
@@ -83,10 +83,10 @@ module _ (p : Params) (whole : length (p .key) ≡ 64) (short : p .«key_length�
   length-keyed : 0 < p .«key_length» → length (front p) ≡ 512
   length-keyed h = ap length (front-keyed h) ∙ length-row 128 4 (omega arith) (omega arith) (pad 128 (keyOf p)) (length-pad 128 (keyOf p) key-fits) 4
 
-  pub length-front : length (front p) ≡ cond (leb 1 (p .«key_length»)) 512 0
+  pub length-front : length (front p) ≡ keyBytes p
   length-front = split (leb 1 (p .«key_length»)) refl
     where
-      split : (b : Bool) → leb 1 (p .«key_length») ≡ b → length (front p) ≡ cond (leb 1 (p .«key_length»)) 512 0
+      split : (b : Bool) → leb 1 (p .«key_length») ≡ b → length (front p) ≡ keyBytes p
       split true e = rw e (length-keyed (leb-true 1 (p .«key_length») e))
       split false e = let none = leb-false 1 (p .«key_length») e in rw e (ap length (front-plain (omega arith)))
 
@@ -119,8 +119,8 @@ module _ (p : Params) (whole : length (p .key) ≡ 64) (short : p .«key_length�
   pub sound-fresh : Sound machine (core (fresh p))
   sound-fresh = let f = front-short in record { sized = length-pad 1024 (front p) (omega arith); held = omega arith }
 
-  pub total-fresh : total (fresh p) ≡ length (front p)
-  total-fresh = zero-add (length (front p))
+  pub total-fresh : total (fresh p) ≡ keyBytes p
+  total-fresh = zero-add (length (front p)) ∙ length-front
 
   pub range-fresh : isDigestLength (p .«hash_length») ≡ true → stateInRange (fresh p) ≡ true
   range-fresh e =
@@ -130,7 +130,7 @@ module _ (p : Params) (whole : length (p .key) ≡ 64) (short : p .«key_length�
       (record { least = d .0; most = d .1; held = omega arith; within = omega arith; front = rw (← length-front) (omega arith) })
 
   -- THE theorem: in any cuts, the digest is the paper's tree of the joined bytes
-  pub digest-of-pieces : (ps : List (List ℕ)) → closedDigest (foldl pushed (fresh p) ps) ≡ digest p (joined ps)
+  pub digest-of-pieces : (ps : List (List ℕ)) → closedDigest (reached p ps) ≡ digest p (joined ps)
   digest-of-pieces ps =
       let d = p .«hash_length» in
       let k = length-key in
@@ -140,6 +140,6 @@ module _ (p : Params) (whole : length (p .key) ≡ 64) (short : p .«key_length�
       ∙ tree-any-cuts BLAKE2b (omega arith) 4 (omega arith) wordsOf onLeaf words-on-leaf d (keyOf p) key-fits (core (fresh p)) ps starts refl pending-fresh
 
   -- behind the bytes that wait, the buffer is zero
-  pub zeros-behind : (ps : List (List ℕ)) → foldl pushed (fresh p) ps .buf ≡ pad 1024 (pending (foldl pushed (fresh p) ps))
+  pub zeros-behind : (ps : List (List ℕ)) → reached p ps .buf ≡ pad 1024 (pending (reached p ps))
   zeros-behind ps =
-      rw (pieces-are (fresh p) ps) (halves.zeros-behind machine lawful (core (fresh p)) ps (ap (pad 1024) (sym pending-fresh)))
+      rw (pieces-are (fresh p) ps) (two-rows.zeros-behind machine lawful (core (fresh p)) ps (ap (pad 1024) (sym pending-fresh)))

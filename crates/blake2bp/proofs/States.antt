@@ -18,7 +18,7 @@ use Rattle.laws.proofs.Buffers.{Lawful}
 use Rattle.laws.proofs.Steps as steps
 use Rattle.laws.proofs.Lifts.{Store}
 use Rattle.laws.proofs.Deals.{parallel-lawful}
-use Rattle.laws.proofs.Halves.{both-gone, half-gone}
+use Rattle.laws.proofs.TwoRows.{both-gone, half-gone}
 use Rattle.numbers.specs.Numbers.{accepted, total-over, bad-record, limit}
 use Rattle.blake2b.specs.Hash.{isDigestLength, noHash, madeFrom}
 use Rattle.blake2b.specs.declared.hash.HashAnswer.{HashAnswer}

@@ -1,7 +1,7 @@
 -- States: what waits and what has gone, the state that bytes lead to, and what each call answers.
 -- Assumes nothing.
 use mathlib.Core.Bool.{Bool, false, cond, _&&_}
-use mathlib.Core.List.{List, [], map}
+use mathlib.Core.List.{List, [], map, foldl}
 use Prim.Native.Nat.{ℕ, _+_, _-_, _*_}
 use lib.Dec.{leb}
 use lib.ListN.{length, take, replicate}
@@ -87,6 +87,10 @@ zeroState = record {
 abbrev pub front : Params → List ℕ
 front p = keyedRow BLAKE2b 4 (keyOf p) []
 
+-- and what it adds to the total
+abbrev pub keyBytes : Params → ℕ
+keyBytes p = cond (leb 1 (p .«key_length»)) 512 0
+
 -- the state of no message bytes: the row of key blocks waits where there is a key
 abbrev pub fresh : Params → State
 fresh p = record {
@@ -98,6 +102,10 @@ fresh p = record {
   «hash_length» = p .«hash_length»;
   «is_keyed» = leb 1 (p .«key_length»);
 }
+
+-- the state of a message that came in these pieces
+abbrev pub reached : Params → List (List ℕ) → State
+reached p ps = foldl pushed (fresh p) ps
 
 unfoldable pub opened : Params → StateAnswer
 opened p = cond (inRange p) (record { number = accepted; state = fresh p }) (record { number = bad-record; state = zeroState })
@@ -136,5 +144,5 @@ digest p m = BLAKE2bp (p .«hash_length») (keyOf p) m
 unfoldable pub hashed : Params → List ℕ → HashAnswer
 hashed p m =
     cond (inRange p)
-    (cond (leb (length (front p) + length m) limit) (record { number = accepted; hash = hashOf (digest p m) }) (noHash total-over))
+    (cond (leb (keyBytes p + length m) limit) (record { number = accepted; hash = hashOf (digest p m) }) (noHash total-over))
     (noHash bad-record)

@@ -8,7 +8,6 @@ mod store;
 
 pub use counts::LeafCount;
 pub use counts::MessageCount;
-pub use leaves::Leaf;
 pub use params::Params;
 pub use params::ParamsAnswer;
 pub use state::BufferedAnswer;

@@ -64,7 +64,7 @@ fn answer(number: u8, params: Params) -> ParamsAnswer
     ParamsAnswer { number, params }
 }
 
-// The words of a node. All nodes have the asked lengths, and an inner length of a whole state.
+// The words of a node. All have the asked lengths, fanout 4, depth 2, leaf length 0, and the inner length of a whole state.
 fn node_words(hash_length: u8, key_length: u8, offset: u64, depth: u8) -> [u64; 8]
     ensures { λ r. ⌜ r ≡ start BLAKE2b (parameters BLAKE2b 4 «hash_length» «key_length» offset depth) ⌝ }
 {

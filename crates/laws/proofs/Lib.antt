@@ -15,7 +15,7 @@ pub mod Steps
 pub mod Lifts
 pub mod Tails
 pub mod Pastes
-pub mod Halves
+pub mod TwoRows
 pub mod Deals
 pub mod Images
 pub mod Trees

@@ -9,7 +9,7 @@ use denote.Ref.{now}
 use lib.ListN.{length, take, drop, length-drop}
 use Rattle.laws.specs.Chain.{spare}
 use Rattle.laws.proofs.Buffers.{Sound}
-use Rattle.laws.proofs.Halves.{spare-both, spare-half}
+use Rattle.laws.proofs.TwoRows.{spare-both, spare-half}
 use Rattle.laws.proofs.Lifts.{filled-held, filled-count, gone-held, gone-count, spill-is}
 use Rattle.blake2bp.specs.State.{machine, core, pending, moved}
 use Rattle.blake2bp.proofs.States.{store, lawful}

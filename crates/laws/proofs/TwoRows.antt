@@ -1,8 +1,9 @@
 -- A buffer of two rows that is full: both go where more than must stay is still to come, else the first one; and zeros stay behind.
 -- Assumes nothing.
 use mathlib.Core.Path.{_≡_, sym, ap, _∙_}
-use mathlib.Core.List.{List, [], _∷_, _++_}
-use Prim.Native.Nat.{ℕ, _+_, _-_, _*_, _≤_, _<_}
+use mathlib.Core.List.{List, [], _∷_, _++_, append-nil}
+use Prim.Native.Nat.{ℕ, zero, suc, _+_, _-_, _*_, _≤_, _<_}
+use native.Mathlib.Nat.{add-zero, sub-zero}
 use native.Mathlib.Omega.{arith}
 use lib.ListN.{length, take, drop, length-drop, take-append-drop}
 use lib.Seq.{paste, take-all, length-take-le}
@@ -10,8 +11,8 @@ use Rattle.definitions.specs.Words.{pad}
 use Rattle.laws.specs.Chain.{zeros, spare}
 use Rattle.laws.specs.Buffer.{Machine, Held, over, behind, pending, moved, gone, pushed, after}
 use Rattle.laws.proofs.Rows.{le-spare, spare-late, spare-is}
-use Rattle.laws.proofs.Buffers.{Lawful, pending-moved}
-use Rattle.laws.proofs.Steps.{kept, emptied}
+use Rattle.laws.proofs.Buffers.{Lawful, Sound, pending-moved, length-pending}
+use Rattle.laws.proofs.Steps.{gone-fits, gone-few, kept, emptied}
 use Rattle.laws.proofs.Tails.{buffer-padded}
 
 -- p bytes are held, n come, and x of these do not fit
@@ -59,6 +60,20 @@ module _ {L : Type 0} (m : Machine L) (lawful : Lawful m) where
       ap (λ (b : List ℕ). over (drop (m .row * k) (pending s ++ a)) (behind (m .room) k b)) e
       ∙ buffer-padded (m .room) k (m .row) (pending s) a
       ∙ ap (pad (m .room)) (sym (pending-moved m lawful s (pending s ++ a) k))
+
+  -- no bytes change nothing
+  pub gone-held : (p : ℕ) → p ≤ m .room → gone m p p ≡ 0
+  gone-held zero h = gone-few m lawful 0 0 (omega arith)
+  gone-held (suc p) h = gone-fits m lawful (suc p) (suc p) (omega arith) h
+
+  pub pushed-nothing : (s : Held L) → Sound m s → pushed m s [] ≡ s
+  unfolding pushed moved over behind
+  pushed-nothing s sound =
+      let l = length-pending m lawful s sound in
+      let z : m .row * 0 ≡ 0 = omega arith in
+      let y : m .step * 0 ≡ 0 = omega arith in
+      let none = gone-held (length (pending s)) (omega (arith, sound .held)) in
+      rw (append-nil (pending s), none, z, y, lawful .run-none, add-zero, sub-zero, l) (unfold pending in rw (take-append-drop (s .buflen) (s .buf)))
 
   pub zeros-behind : (s : Held L) (ps : List (List ℕ)) → s .buf ≡ pad (m .room) (pending s) → after m s ps .buf ≡ pad (m .room) (pending (after m s ps))
   unfolding after pushed

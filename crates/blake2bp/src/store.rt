@@ -1,4 +1,5 @@
-// Bytes stored in a buffer of any size.
+// Bytes stored in a buffer of any size, by index.
+// One loop serves the buffer of a state, the key blocks, the key and the leaves' states.
 ghost use mathlib.Core.Path.{_≡_};
 ghost use Prim.Native.Nat.{_+_, _≤_};
 ghost use lib.ListN.{length};

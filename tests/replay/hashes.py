@@ -1,12 +1,9 @@
 """One-shot hashes, states and digests: published, documented and hashlib's, and the refusals that they can meet."""
 import hashlib
-import os
-import sys
 
 from parameters import chosen, set_all
+from published import published_cases
 from script import counted, digest_answer, generated, hexadecimal, note, say
-
-KAT = os.environ.get("KAT") or sys.exit("KAT is not set: it names the file of published answers")
 
 
 # Where the pieces of a message of so many bytes end.
@@ -29,21 +26,16 @@ def pieces(message, ends, digest):
 
 
 def published():
-    with open(KAT) as lines:
-        cases = [line.split() for line in lines if line.startswith("b2b ")]
-    assert len(cases) == 512, len(cases)
-    for keyed in False, True:
-        note("published answers, " + ("keyed" if keyed else "unkeyed"))
+    for key, group in published_cases("b2b"):
+        note("published answers, " + ("keyed" if key else "unkeyed"))
         say("params new")
-        group = [case for case in cases if (case[1] != "-") == keyed]
-        if keyed:
-            (key,) = {case[1] for case in group}
+        if key:
             say("params key x:" + key)
-        for _, _, length, digest in group:
-            message = "c:%s:0" % length
+        for length, digest in group:
+            message = "c:%d:0" % length
             say("hash " + message, digest_answer(digest))
             for ends in CUTS.values():
-                pieces(message, ends(int(length)), digest)
+                pieces(message, ends(length), digest)
 
 
 # The examples in the documentation of blake2b_simd 1.0.5: of the crate, blake2b, Params and State.

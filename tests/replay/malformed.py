@@ -2,6 +2,7 @@
 import hashlib
 
 from script import counted, digest_answer, note, refused_digest, say
+from trees import tree_digest
 
 
 def malformed_lines():
@@ -13,11 +14,17 @@ def malformed_lines():
     say("bank open 2")
     say("bank update 2 x:616263")
     say("job new 2 0 3 x:616263")
+    say("bp params new")
+    say("bp state new")
+    say("bp state update x:616263")
     for fault, lines in {
         "command": ["hush x:00", "state", "state open now", "state close", "params", "params depth 1", "digest",
                     "digest length", "params new now", "HASH x:00", " hash x:00",
                     "bank", "bank shut 2", "bank new 2", "banks new", "bank  new", "piece 0 0 0 0", "job", "job zero 2",
-                    "jobs run 1 x:00"],
+                    "jobs run 1 x:00",
+                    "bp", "bp state", "bp state open now", "bp state buffered ", "bp state count 1", "bp state set_last_node 1",
+                    "bp params", "bp params new 1", "bp params salt x:00", "bp hashes x:00", "bp  hash x:00", "bp digest len",
+                    "BP hash x:00", "blake2bp x:00"],
         "number": ["params fanout 256", "params max_depth -1", "params max_leaf_length 4294967296",
                    "params node_offset 18446744073709551616", "params hash_length", "params hash_length 1x",
                    "params hash_length 0x10", "params last_node 2", "state set_last_node 2",
@@ -26,16 +33,20 @@ def malformed_lines():
                    "bank update", "bank update x:00", "bank update  2 x:00", "bank digest 2 64", "bank digest_to 2",
                    "bank digest_to 2 1025", "bank digest_to 2 64 ", "bank piece 16 2 0 1", "bank piece 0 2 0",
                    "bank piece 0 2 0 1 1", "bank update_many x:00", "job new 16 0 1 x:00", "job new 2 0 x:00",
-                   "job new 2  0 1 x:00", "job run x:00", "job hash 16", "job hash", "job hash 2 2"],
+                   "job new 2  0 1 x:00", "job run x:00", "job hash 16", "job hash", "job hash 2 2",
+                   "bp params hash_length", "bp params hash_length -1", "bp params hash_length x:00",
+                   "bp params hash_length 18446744073709551616"],
         "message": ["hash", "hash 616263", "hash x:0", "hash x:0g", "hash x:00 00", "hash c:4194305:0", "hash c:1:256",
                     "hash c:1", "hash g:1:2147483648", "hash q:00", "hash x:00[0:2]", "hash x:0001[2:1]",
                     "hash x:0001[0:1", "hash x:0001[0:1]z", "hash x:0001[:1]", "params key x:0", "state update",
                     "digest from_bytes c:63:0", "digest from_bytes c:65:0", "digest equals_bytes 00",
                     "bank update 2", "bank update 2 616263", "bank update 2 2 x:00", "bank update 2  x:00",
                     "bank update_many 1", "bank update_many 1 x:0", "job new 2 0 1", "job new 2 0 1 1 x:00", "job run 16",
-                    "job run 3 x:00[0:2]"],
+                    "job run 3 x:00[0:2]",
+                    "bp hash", "bp hash 00", "bp blake2bp x:00[0:2]", "bp params key x:0", "bp state update",
+                    "bp state update c:4194305:0", "bp state update x:00 x:00"],
         "line": ["blake2b x:" + "00" * 4091 + "0", "blake2b x:" + "00" * 20000, "# " + "-" * 8191,
-                 "bank update 2 x:" + "00" * 4089, "job run 0 x:" + "00" * 4091],
+                 "bank update 2 x:" + "00" * 4089, "job run 0 x:" + "00" * 4091, "bp hash x:" + "00" * 4092],
     }.items():
         for line in lines:
             say(line, "malformed " + fault)
@@ -44,6 +55,9 @@ def malformed_lines():
     say("bank count 2", "number=0 count=3")
     say("bank digest 2", digest_answer(hashlib.blake2b(b"abc").hexdigest()))
     say("job hash 2", refused_digest(12))
+    say("bp state count", "number=0 count=3")
+    say("bp state finalize", digest_answer(tree_digest(b"abc")))
+    say("bp hash x:616263", digest_answer(tree_digest(b"abc")))
     note("the longest line, upper-case digits, and a part of a message")
     say("blake2b x:" + "00" * 4091, digest_answer(hashlib.blake2b(bytes(4091)).hexdigest()))
     say("blake2b x:ABcdEF", digest_answer(hashlib.blake2b(b"\xab\xcd\xef").hexdigest()))

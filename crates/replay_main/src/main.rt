@@ -1,10 +1,10 @@
 // Runs a script of calls: it comes on standard input, and the answers go to standard output.
-// The work is crate replay_batches'; here a line is put together from what the reads bring.
+// The work is crate replay_blake2bp's; here a line is put together from what the reads bring.
 use bytes::scan::find;
 use libc::STDIN_FILENO;
 use libc::STDOUT_FILENO;
-use replay_batches::Session;
-use replay_batches::run_line;
+use replay_blake2bp::Session;
+use replay_blake2bp::run_line;
 use replay_text::LINE;
 use replay_text::part;
 use replay_text::push;

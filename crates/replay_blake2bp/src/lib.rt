@@ -1,0 +1,11 @@
+// The interpreter of a script's calls on BLAKE2bp, over crate replay_batches', which has all other calls.
+// Test code: safe by proof, with no promise of its own. docs/REPLAY.md has the format.
+mod records;
+mod script;
+mod session;
+mod shown;
+mod table;
+
+pub use script::run_line;
+pub use session::Reply;
+pub use session::Session;

@@ -1,0 +1,53 @@
+// A line of a script: a call of this crate's table, or a line that crate replay_batches answers.
+// What is no call of either is answered there too, and changes nothing.
+use crate::records;
+use crate::session::Reply;
+use crate::session::Session;
+use crate::shown;
+use crate::table;
+use replay_text::Call;
+use replay_text::Fault;
+use replay_text::part;
+use replay_text::put_fault;
+
+fn make(session: Session, call: Call, message: &[u8], out: &mut [u8]) -> Reply {
+    let row = call.row;
+    let fault = call.fault;
+    let numbers = call.numbers;
+    match row {
+        table::PARAMS_NEW..=table::PARAMS_KEY => records::call_on_params(
+            session,
+            row,
+            numbers[0],
+            message,
+            out,
+        ),
+        table::STATE_NEW..=table::STATE_UPDATE => records::call_on_state(
+            session,
+            row,
+            message,
+            out,
+        ),
+        table::STATE_FINALIZE..=table::STATE_BUFFERED => shown::call(session, row, message, out),
+        _ => session.answered(put_fault(out, fault)),
+    }
+}
+
+fn pass_on(session: Session, line: &[u8], space: &mut [u8], out: &mut [u8]) -> Reply {
+    let base = session.base;
+    let done = replay_batches::run_line(base, line, space, out);
+    let next = done.session;
+    let mut after = session;
+    after.base = next;
+    after.answered(done.length)
+}
+
+// One line of a script. Messages are made in the space, and the answer goes to the output: nothing where there is none.
+pub fn run_line(session: Session, line: &[u8], space: &mut [u8], out: &mut [u8]) -> Reply {
+    let call = table::read(line, space);
+    let fault = call.fault;
+    match fault {
+        Fault::Command => pass_on(session, line, space, out),
+        _ => make(session, call, part(space, call.from, call.to), out),
+    }
+}

@@ -5,7 +5,7 @@ use numbers::ACCEPTED;
 use numbers::DIGEST_LENGTH;
 use numbers::OUTPUT;
 use numbers::RECORD;
-use portable::write_words;
+use words::write_words;
 ghost use mathlib.Core.Path.{_≡_};
 ghost use mathlib.Core.Bool.{true};
 ghost use Prim.Native.Nat.{_*_, _<_, _≤_};

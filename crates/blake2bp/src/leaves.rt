@@ -9,7 +9,7 @@ use portable::Finalize;
 use portable::LastNode;
 use portable::Stride;
 use portable::compress1_loop;
-use portable::write_words;
+use words::write_words;
 ghost use mathlib.Core.Path.{_≡_};
 ghost use mathlib.Core.Bool.{_&&_};
 ghost use mathlib.Core.List.{map, flatMap};

@@ -7,7 +7,7 @@ use portable::Finalize;
 use portable::LastNode;
 use portable::Stride;
 use portable::compress1_loop;
-use portable::write_words;
+use words::write_words;
 ghost use Prim.Native.Nat.{_+_, _<_, _^_};
 ghost use lib.ListN.{length};
 

@@ -1,2 +1,1 @@
 pub mod Guts
-pub mod Quads

@@ -1,6 +1,5 @@
 // The loop over the blocks of an input, serial or at a leaf's stride.
 // Its one contract covers both strides, finalizing or not.
-use crate::compress::compress_block;
 use crate::guts::Finalize;
 use crate::guts::LastNode;
 use crate::guts::Stride;
@@ -10,6 +9,7 @@ use crate::guts::final_block;
 use crate::guts::final_facts;
 use crate::guts::pad_final_block;
 use crate::guts::zero_block;
+use compression::compress_block;
 ghost use mathlib.Core.Path.{_≡_};
 ghost use mathlib.Core.Bool.{_&&_};
 ghost use Prim.Native.Nat.{_+_, _*_, _^_, _<_};

@@ -1,11 +1,9 @@
-// The helpers of guts.rs: what a run of the block loop is told, the words of a count and of a flag, and the block at an offset.
+// The helpers of guts.rs: what a run of the block loop is told, the words of a count, and the block at an offset.
 // A block is made ready, then handed back, and its facts are asked for: three calls for the Rust's one.
 ghost use mathlib.Core.Path.{_≡_};
 ghost use Prim.Native.Nat.{_/_, _%_, _^_, _≤_};
 ghost use lib.ListN.{length, drop};
 ghost use Rattle.definitions.specs.Words.{pad};
-ghost use Rattle.definitions.specs.Family.{BLAKE2b};
-ghost use Rattle.definitions.specs.Compress.{ones};
 ghost use Rattle.laws.specs.Chain.{zeros};
 ghost use Rattle.laws.specs.Offsets.{paddedBuffer, finalBlock};
 ghost use Rattle.portable.specs.Guts.{finalizes, isLastNode, paddedBlockbytes, finalFacts};
@@ -72,13 +70,6 @@ pub fn count_high(count: u64) -> u64
     ensures { λ r. ⌜ r ≡ count / 2 ^ 64 ⌝ }
 {
     0
-}
-
-// A word of ones where the flag is up.
-pub fn flag_word(flag: bool) -> u64
-    ensures { λ r. ⌜ r ≡ ones BLAKE2b flag ⌝ }
-{
-    if flag { 0xFFFF_FFFF_FFFF_FFFF } else { 0 }
 }
 
 // The input from the offset on: nothing where that is past the end.

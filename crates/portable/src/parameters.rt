@@ -1,7 +1,7 @@
 // The words before the first block: the parameter block, as plain numbers, and the initialization vector.
 // Over plain numbers, so that a node of any tree needs no setter.
-use crate::compress::IV;
-use crate::words::read_word;
+use compression::IV;
+use words::read_word;
 ghost use mathlib.Core.Path.{_≡_};
 ghost use Rattle.definitions.specs.Family.{BLAKE2b};
 ghost use Rattle.definitions.specs.Hash.{start};

@@ -1,0 +1,94 @@
+-- `compression::finish` meets its contract. The loop's invariant: the first i words are folded.
+-- Assumes nothing.
+use mathlib.Core.Path.{_≡_, refl, _∙_}
+use Prim.Native.Nat.{ℕ, _+_, _-_, _<_, _≤_}
+use native.Mathlib.Nat.{not-suc-le-zero}
+use native.Mathlib.Numerals.{add-one}
+use native.Mathlib.Omega.{arith}
+use borrow.Author.Needs.{needs}
+use lib.ListN.{length, length-set}
+use Rattle.definitions.specs.Words.{_!_, _⊕_}
+use Rattle.laws.proofs.Lists.{set-more, by-places}
+use Rattle.laws.specs.Halves.{foldHalves}
+use Rattle.compression.proofs.finish.Statement.{statement}
+use Rattle.compression.proofs.finish.Tie as tie
+
+abbrev Inv-loop : tie.InvT-loop
+Inv-loop h v x₀ i₀ x i = (i ≤ 8) × (length x ≡ 8) × ((k : ℕ) → k < i → x ! k ≡ h ! k ⊕ v ! k ⊕ v ! (k + 8))
+
+abbrev μ-loop : tie.MeasureT-loop
+μ-loop h v x₀ i₀ x i = 8 - i
+
+loop-holds : tie.Need-loop-holds Inv-loop μ-loop
+loop-holds c = (omega arith, refl, λ k h. absurd (not-suc-le-zero h))
+
+add-j : tie.Need-add-j Inv-loop μ-loop
+add-j c = search needs
+
+mul-x : tie.Need-mul-x Inv-loop μ-loop
+mul-x c = search needs
+
+array-read-x : tie.Need-array-read-x Inv-loop μ-loop
+array-read-x c = search needs
+
+mul-x-2 : tie.Need-mul-x-2 Inv-loop μ-loop
+mul-x-2 c = search needs
+
+array-read-x-2 : tie.Need-array-read-x-2 Inv-loop μ-loop
+array-read-x-2 c = search needs
+
+mul-x-3 : tie.Need-mul-x-3 Inv-loop μ-loop
+mul-x-3 c = search needs
+
+array-read-x-3 : tie.Need-array-read-x-3 Inv-loop μ-loop
+array-read-x-3 c = search needs
+
+mul-x-4 : tie.Need-mul-x-4 Inv-loop μ-loop
+mul-x-4 c = search needs
+
+array-write-x : tie.Need-array-write-x Inv-loop μ-loop
+array-write-x c = search needs
+
+add-i : tie.Need-add-i Inv-loop μ-loop
+add-i c = search needs
+
+loop-less : tie.Need-loop-less Inv-loop μ-loop
+loop-less c = search needs
+
+loop-again : tie.Need-loop-again Inv-loop μ-loop
+loop-again c =
+    let l = c .before .loop in
+    let a = c .before .before .args in
+    let x = a .t1 ! (l .i) ⊕ a .t2 ! (l .i) ⊕ a .t2 ! (l .i + 8) in (
+      omega arith,
+      length-set (l .x) (l .i) x ∙ l .inv .1,
+      rw add-one (set-more (l .x) (l .i) x (λ k. a .t1 ! k ⊕ a .t2 ! k ⊕ a .t2 ! (k + 8)) (omega arith) refl (l .inv .2)),
+    )
+
+returns : tie.Need-returns Inv-loop μ-loop
+unfolding foldHalves
+returns c =
+    let l = c .before .loop in
+    let a = c .before .before .args in
+    by-places 8 (l .x) (λ k. a .t1 ! k ⊕ a .t2 ! k ⊕ a .t2 ! (k + 8)) (l .inv .1) (λ k h. l .inv .2 k (omega arith))
+
+pub finish-spec : {M : Type 1} → statement M
+finish-spec =
+    tie.close
+    (tie.spec
+    Inv-loop
+    μ-loop
+    loop-holds
+    add-j
+    mul-x
+    array-read-x
+    mul-x-2
+    array-read-x-2
+    mul-x-3
+    array-read-x-3
+    mul-x-4
+    array-write-x
+    add-i
+    loop-less
+    loop-again
+    returns)

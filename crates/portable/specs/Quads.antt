@@ -1,8 +1,0 @@
--- The four words that the mixing function hands back, as a list.
--- Assumes nothing.
-use mathlib.Core.List.{List, [], _∷_}
-use Prim.Native.Nat.{ℕ}
-use Rattle.portable.specs.declared.compress.Quad.{Quad}
-
-abbrev pub listed : Quad → List ℕ
-listed q = q .a ∷ q .b ∷ q .c ∷ q .d ∷ []

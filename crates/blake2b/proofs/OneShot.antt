@@ -14,8 +14,8 @@ use Rattle.definitions.specs.Hash.{start, stateBytes}
 use Rattle.laws.specs.Blocks.{throughBlocks}
 use Rattle.laws.proofs.Calls.{untruncated-through}
 use Rattle.numbers.specs.Numbers.{accepted, total-over, bad-record, limit}
-use Rattle.portable.specs.Guts.{isLastNode}
-use Rattle.portable.specs.declared.guts.LastNode.{LastNode}
+use Rattle.guts.specs.Guts.{isLastNode}
+use Rattle.guts.specs.declared.LastNode.{LastNode}
 use Rattle.blake2b.specs.Hash.{isDigestLength, hashOf, noHash, madeFrom}
 use Rattle.blake2b.specs.Params.{defaults, inRange, asked, front}
 use Rattle.blake2b.specs.State.{lastNodeOf, pushed, total, stateInRange, fresh, updated, finalized, digest, hashed}

@@ -21,8 +21,8 @@ use Rattle.laws.proofs.Steps as steps
 use Rattle.laws.proofs.Lifts.{Store}
 use Rattle.laws.proofs.Serial.{serial-lawful}
 use Rattle.numbers.specs.Numbers.{accepted, total-over, bad-record, limit}
-use Rattle.portable.specs.Guts.{isLastNode}
-use Rattle.portable.specs.declared.guts.LastNode.{LastNode}
+use Rattle.guts.specs.Guts.{isLastNode}
+use Rattle.guts.specs.declared.LastNode.{LastNode}
 use Rattle.blake2b.specs.Hash.{isDigestLength, hashOf, noHash, madeFrom}
 use Rattle.blake2b.specs.Params.{inRange, asked, front}
 use Rattle.blake2b.specs.declared.hash.HashAnswer.{HashAnswer}

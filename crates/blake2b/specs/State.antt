@@ -13,8 +13,8 @@ use Rattle.laws.specs.Blocks.{onBytes, throughBlocks}
 use Rattle.laws.specs.Buffer.{Machine, Held, serial}
 use Rattle.laws.specs.Buffer as buffer
 use Rattle.numbers.specs.Numbers.{accepted, total-over, bad-record, limit}
-use Rattle.portable.specs.declared.guts.LastNode.{LastNode}
-use Rattle.portable.specs.declared.guts.LastNode.the-variants as lastNode
+use Rattle.guts.specs.declared.LastNode.{LastNode}
+use Rattle.guts.specs.declared.LastNode.the-variants as lastNode
 use Rattle.blake2b.specs.Hash.{isDigestLength, hashOf, noHash}
 use Rattle.blake2b.specs.Params.{inRange, asked, front}
 use Rattle.blake2b.specs.declared.hash.HashAnswer.{HashAnswer}

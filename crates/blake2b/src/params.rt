@@ -1,6 +1,8 @@
 // The parameters: the defaults, a setter for each, and the words that a hash starts from.
 // A setter overwrites its whole field, so that nothing of an older value stays.
 use crate::hash::is_digest_length;
+use guts::padded;
+use guts::zero_block;
 use numbers::ACCEPTED;
 use numbers::DIGEST_LENGTH;
 use numbers::INNER_LENGTH;
@@ -8,9 +10,7 @@ use numbers::KEY_LENGTH;
 use numbers::PERSONAL_LENGTH;
 use numbers::RECORD;
 use numbers::SALT_LENGTH;
-use portable::padded;
 use portable::parameter_words;
-use portable::zero_block;
 ghost use mathlib.Core.Path.{_≡_};
 ghost use mathlib.Core.Bool.{true};
 ghost use Prim.Native.Nat.{_≤_};

@@ -18,8 +18,8 @@ use Rattle.laws.specs.Leaves.{leafStarts}
 use Rattle.laws.proofs.Deals.{each-turn}
 use Rattle.laws.proofs.Images.{through-image}
 use Rattle.laws.proofs.Pastes.{paste-padded}
-use Rattle.portable.specs.Guts.{isLastNode}
-use Rattle.portable.specs.declared.guts.LastNode.{LastNode}
+use Rattle.guts.specs.Guts.{isLastNode}
+use Rattle.guts.specs.declared.LastNode.{LastNode}
 use Rattle.blake2b.specs.State.{lastNodeOf}
 use Rattle.blake2b.proofs.States.{last-node-is}
 use Rattle.blake2bp.specs.Leaves.{leafOf, wordsOf, stateOf, onLeaf}

@@ -3,9 +3,9 @@
 // one would keep the compiler from inlining it.
 use blake2b::State;
 use blake2b::blake2b;
-use portable::Finalize;
-use portable::LastNode;
-use portable::Stride;
+use guts::Finalize;
+use guts::LastNode;
+use guts::Stride;
 use portable::compress1_loop;
 use words::write_words;
 ghost use Prim.Native.Nat.{_+_, _<_, _^_};

@@ -3,6 +3,9 @@
 use blake2b::Hash;
 use blake2b::HashAnswer;
 use blake2b::Params;
+use guts::Finalize;
+use guts::LastNode;
+use guts::Stride;
 use numbers::ACCEPTED;
 use numbers::LIMIT;
 use numbers::PIECE;
@@ -10,9 +13,6 @@ use numbers::RECORD;
 use numbers::TOTAL;
 use numbers::UNFINISHED;
 use numbers::piece_ok;
-use portable::Finalize;
-use portable::LastNode;
-use portable::Stride;
 use portable::compress1_loop;
 ghost use mathlib.Core.Path.{_≡_};
 ghost use mathlib.Core.Bool.{_&&_};
@@ -21,7 +21,7 @@ ghost use lib.ListN.{length};
 ghost use Rattle.definitions.specs.Family.{BLAKE2b};
 ghost use Rattle.laws.specs.Blocks.{throughBlocks};
 ghost use Rattle.numbers.specs.Numbers.{accepted};
-ghost use Rattle.portable.specs.Guts.{finalizes, isLastNode};
+ghost use Rattle.guts.specs.Guts.{finalizes, isLastNode};
 ghost use Rattle.blake2b.specs.Hash.{noHash};
 ghost use Rattle.many.specs.Job.{zeroJob, noJob, jobInRange, finishedAtOnce, keyBytes, firstWords, begun, madeJob, ran, runOver, jobRefusal, jobHash};
 

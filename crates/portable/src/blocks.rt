@@ -1,15 +1,15 @@
 // The loop over the blocks of an input, serial or at a leaf's stride.
 // Its one contract covers both strides, finalizing or not.
-use crate::guts::Finalize;
-use crate::guts::LastNode;
-use crate::guts::Stride;
-use crate::guts::count_high;
-use crate::guts::count_low;
-use crate::guts::final_block;
-use crate::guts::final_facts;
-use crate::guts::pad_final_block;
-use crate::guts::zero_block;
 use compression::compress_block;
+use guts::Finalize;
+use guts::LastNode;
+use guts::Stride;
+use guts::count_high;
+use guts::count_low;
+use guts::final_block;
+use guts::final_facts;
+use guts::pad_final_block;
+use guts::zero_block;
 ghost use mathlib.Core.Path.{_≡_};
 ghost use mathlib.Core.Bool.{_&&_};
 ghost use Prim.Native.Nat.{_+_, _*_, _^_, _<_};
@@ -17,7 +17,7 @@ ghost use lib.ListN.{length};
 ghost use Rattle.definitions.specs.Family.{BLAKE2b};
 ghost use Rattle.laws.specs.Chain.{spare};
 ghost use Rattle.laws.specs.Blocks.{throughBlocks};
-ghost use Rattle.portable.specs.Guts.{finalizes, isLastNode, paddedBlockbytes};
+ghost use Rattle.guts.specs.Guts.{finalizes, isLastNode, paddedBlockbytes};
 
 // What a run of the loop hands back.
 pub struct Compressed {

@@ -2,7 +2,7 @@
 -- Assumes nothing.
 use mathlib.Core.Bool.{_&&_}
 use denote.Ref.{now}
-use Rattle.portable.specs.Guts.{finalizes, isLastNode}
+use Rattle.guts.specs.Guts.{finalizes, isLastNode}
 use Rattle.blake2bp.proofs.Turns.{run-made}
 use borrow.Author.Needs.{needs}
 use Rattle.blake2bp.proofs.leaves.run_leaf.Statement.{statement}

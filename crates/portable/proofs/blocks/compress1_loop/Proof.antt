@@ -19,12 +19,12 @@ use Rattle.laws.specs.Blocks.{onBytes, throughBlocks}
 use Rattle.definitions.proofs.Lengths.{length-pad}
 use Rattle.laws.proofs.Bytes.{length-zeros}
 use Rattle.laws.proofs.Chains.{absorb-step, through-step}
-use Rattle.portable.specs.Guts.{paddedBlockbytes, finalFacts, finalizes, isLastNode}
-use Rattle.portable.specs.declared.guts.Stride.{Stride}
-use Rattle.portable.specs.declared.guts.FinalFacts.{FinalFacts}
+use Rattle.guts.specs.Guts.{paddedBlockbytes, finalFacts, finalizes, isLastNode}
+use Rattle.guts.specs.declared.Stride.{Stride}
+use Rattle.guts.specs.declared.FinalFacts.{FinalFacts}
 use Rattle.laws.proofs.Calls.{compressed-on-bytes}
 use Rattle.laws.proofs.Offsets.{last-is, last-not, row-more, block-at, length-block, length-buffer, short-block, whole-block, count-fits}
-use Rattle.portable.proofs.Facts.{row-wide}
+use Rattle.guts.proofs.Facts.{row-wide}
 use Rattle.portable.proofs.blocks.compress1_loop.Statement.{statement}
 use Rattle.portable.proofs.blocks.compress1_loop.Tie as tie
 

@@ -1,9 +1,9 @@
--- `portable::guts::zero_block` meets its contract.
+-- `guts::zero_block` meets its contract.
 -- Assumes nothing.
 use mathlib.Core.Path.{refl}
 use Rattle.laws.specs.Chain.{zeros}
-use Rattle.portable.proofs.guts.zero_block.Statement.{statement}
-use Rattle.portable.proofs.guts.zero_block.Tie as tie
+use Rattle.guts.proofs.zero_block.Statement.{statement}
+use Rattle.guts.proofs.zero_block.Tie as tie
 
 returns : tie.Need-returns
 unfolding zeros

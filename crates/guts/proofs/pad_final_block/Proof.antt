@@ -1,11 +1,11 @@
--- `portable::guts::pad_final_block` meets its contract.
+-- `guts::pad_final_block` meets its contract.
 -- Assumes nothing.
 use mathlib.Core.Path.{_∙_}
 use denote.Ref.{now}
 use borrow.Author.Needs.{needs}
 use Rattle.laws.proofs.Offsets.{buffer-short, buffer-whole}
-use Rattle.portable.proofs.guts.pad_final_block.Statement.{statement}
-use Rattle.portable.proofs.guts.pad_final_block.Tie as tie
+use Rattle.guts.proofs.pad_final_block.Statement.{statement}
+use Rattle.guts.proofs.pad_final_block.Tie as tie
 
 offset-slice-requires : tie.Need-offset-slice-requires
 offset-slice-requires c κs = search needs

@@ -1,12 +1,12 @@
--- `portable::guts::final_block` meets its contract.
+-- `guts::final_block` meets its contract.
 -- Assumes nothing.
 use mathlib.Core.Path.{sym}
 use lib.Seq.{length-take-le}
 use denote.Ref.{now}
 use borrow.Author.Needs.{needs}
 use Rattle.laws.proofs.Offsets.{block-short, block-whole}
-use Rattle.portable.proofs.guts.final_block.Statement.{statement}
-use Rattle.portable.proofs.guts.final_block.Tie as tie
+use Rattle.guts.proofs.final_block.Statement.{statement}
+use Rattle.guts.proofs.final_block.Tie as tie
 
 offset-slice-requires : tie.Need-offset-slice-requires
 offset-slice-requires c κs = search needs

@@ -1,12 +1,12 @@
-// The helpers of guts.rs: what a run of the block loop is told, the words of a count, and the block at an offset.
-// A block is made ready, then handed back, and its facts are asked for: three calls for the Rust's one.
+// Module 1, the helpers of guts.rs: what a run of the block loop is told, the words of a count, and the block at an offset.
+// A block is made ready, then handed back, and its facts are asked for: three calls for the Rust's one. Internal.
 ghost use mathlib.Core.Path.{_≡_};
 ghost use Prim.Native.Nat.{_/_, _%_, _^_, _≤_};
 ghost use lib.ListN.{length, drop};
 ghost use Rattle.definitions.specs.Words.{pad};
 ghost use Rattle.laws.specs.Chain.{zeros};
 ghost use Rattle.laws.specs.Offsets.{paddedBuffer, finalBlock};
-ghost use Rattle.portable.specs.Guts.{finalizes, isLastNode, paddedBlockbytes, finalFacts};
+ghost use Rattle.guts.specs.Guts.{finalizes, isLastNode, paddedBlockbytes, finalFacts};
 
 pub enum Finalize {
     Yes,
@@ -73,7 +73,7 @@ pub fn count_high(count: u64) -> u64
 }
 
 // The input from the offset on: nothing where that is past the end.
-fn offset_slice<'a>(input: &'a [u8], offset: usize) -> &'a [u8]
+pub fn offset_slice<'a>(input: &'a [u8], offset: usize) -> &'a [u8]
     ensures { λ r. ⌜ now r ≡ drop offset (now (input .entry)) ⌝ }
 {
     if offset < input.len() {

@@ -1,10 +1,10 @@
--- `portable::guts::final_facts` meets its contract.
+-- `guts::final_facts` meets its contract.
 -- Assumes nothing.
 use denote.Ref.{now}
 use borrow.Author.Needs.{needs}
-use Rattle.portable.proofs.Facts.{facts-short, facts-whole}
-use Rattle.portable.proofs.guts.final_facts.Statement.{statement}
-use Rattle.portable.proofs.guts.final_facts.Tie as tie
+use Rattle.guts.proofs.Facts.{facts-short, facts-whole}
+use Rattle.guts.proofs.final_facts.Statement.{statement}
+use Rattle.guts.proofs.final_facts.Tie as tie
 
 offset-slice-requires : tie.Need-offset-slice-requires
 offset-slice-requires c κs = search needs

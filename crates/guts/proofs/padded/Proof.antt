@@ -1,4 +1,4 @@
--- `portable::guts::padded` meets its contract. The loop's invariant: the first i bytes stand over zeros.
+-- `guts::padded` meets its contract. The loop's invariant: the first i bytes stand over zeros.
 -- Assumes nothing.
 use mathlib.Core.Path.{_≡_, ap, _∙_}
 use Prim.Native.Nat.{_-_, _≤_}
@@ -9,8 +9,8 @@ use lib.Seq.{take-all}
 use Rattle.definitions.specs.Words.{pad}
 use Rattle.laws.specs.Chain.{zeros}
 use Rattle.laws.proofs.Bytes.{pad-more}
-use Rattle.portable.proofs.guts.padded.Statement.{statement}
-use Rattle.portable.proofs.guts.padded.Tie as tie
+use Rattle.guts.proofs.padded.Statement.{statement}
+use Rattle.guts.proofs.padded.Tie as tie
 
 abbrev Inv-loop : tie.InvT-loop
 Inv-loop bytes block₀ i₀ block i = (i ≤ length bytes) × (block ≡ pad 128 (take i bytes))

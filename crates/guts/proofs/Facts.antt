@@ -8,9 +8,9 @@ use native.Mathlib.Omega.{arith}
 use borrow.Author.Tests.{le-leb}
 use lib.Dec.{lit<, leb}
 use lib.ListN.{length, drop}
-use Rattle.portable.specs.Guts.{paddedBlockbytes, finalFacts}
-use Rattle.portable.specs.declared.guts.Stride.{Stride}
-use Rattle.portable.specs.declared.guts.Stride.the-variants.{Serial, Parallel}
+use Rattle.guts.specs.Guts.{paddedBlockbytes, finalFacts}
+use Rattle.guts.specs.declared.Stride.{Stride}
+use Rattle.guts.specs.declared.Stride.the-variants.{Serial, Parallel}
 
 pub row-wide : (s : Stride) → 128 ≤ paddedBlockbytes s
 row-wide Serial = lit< tt

@@ -1,4 +1,4 @@
--- `portable::guts::offset_slice` meets its contract.
+-- `guts::offset_slice` meets its contract.
 -- Assumes nothing.
 use mathlib.Core.Path.{_≡_}
 use mathlib.Core.List.{[]}
@@ -7,8 +7,8 @@ use native.Mathlib.Omega.{arith}
 use borrow.Author.Needs.{needs}
 use lib.ListN.{length, drop, length-drop, drop-of-length-le}
 use lib.Seq.{take-all, take-nil, drop-length}
-use Rattle.portable.proofs.guts.offset_slice.Statement.{statement}
-use Rattle.portable.proofs.guts.offset_slice.Tie as tie
+use Rattle.guts.proofs.offset_slice.Statement.{statement}
+use Rattle.guts.proofs.offset_slice.Tie as tie
 
 sub-result : tie.Need-sub-result
 sub-result c = search needs

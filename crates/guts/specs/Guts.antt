@@ -6,13 +6,13 @@ use Prim.Native.Nat.{ℕ, _*_, min}
 use lib.Dec.{leb}
 use lib.ListN.{length, drop}
 use Rattle.definitions.specs.Family.{BLAKE2b}
-use Rattle.portable.specs.declared.guts.Finalize.{Finalize}
-use Rattle.portable.specs.declared.guts.Finalize.the-variants as finalize
-use Rattle.portable.specs.declared.guts.LastNode.{LastNode}
-use Rattle.portable.specs.declared.guts.LastNode.the-variants as lastNode
-use Rattle.portable.specs.declared.guts.Stride.{Stride}
-use Rattle.portable.specs.declared.guts.Stride.the-variants.{Serial, Parallel}
-use Rattle.portable.specs.declared.guts.FinalFacts.{FinalFacts}
+use Rattle.guts.specs.declared.Finalize.{Finalize}
+use Rattle.guts.specs.declared.Finalize.the-variants as finalize
+use Rattle.guts.specs.declared.LastNode.{LastNode}
+use Rattle.guts.specs.declared.LastNode.the-variants as lastNode
+use Rattle.guts.specs.declared.Stride.{Stride}
+use Rattle.guts.specs.declared.Stride.the-variants.{Serial, Parallel}
+use Rattle.guts.specs.declared.FinalFacts.{FinalFacts}
 
 abbrev pub finalizes : Finalize → Bool
 finalizes finalize.Yes = true

@@ -10,17 +10,17 @@ use lib.ListN.{length, take, drop}
 use Rattle.definitions.specs.Words.{pad}
 use Rattle.laws.specs.Chain.{zeros}
 use Rattle.numbers.specs.Numbers.{accepted, slot-closed, piece-outside, slot-open, pieceOk}
-use Rattle.blake2b.specs.Hash.{hashOf, digestOf, zeroHash}
+use Rattle.hash.specs.Hash.{hashOf, digestOf, zeroHash}
 use Rattle.blake2b.specs.Params.{inRange}
 use Rattle.blake2b.specs.State.{stateInRange, closedDigest}
 use Rattle.blake2b.specs.State as state
 use Rattle.blake2b.specs.declared.params.Params.{Params}
-use Rattle.blake2b.specs.declared.hash.Hash.{Hash}
-use Rattle.blake2b.specs.declared.hash.HashAnswer.{HashAnswer}
+use Rattle.hash.specs.declared.Hash.{Hash}
+use Rattle.hash.specs.declared.HashAnswer.{HashAnswer}
 use Rattle.blake2b.specs.declared.state.State.{State}
 use Rattle.blake2b.specs.declared.state.StateAnswer.{StateAnswer}
 use Rattle.blake2b.specs.declared.state.CountAnswer.{CountAnswer}
-use Rattle.blake2b.proofs.Digests.{digest-of-hash}
+use Rattle.hash.proofs.Digests.{digest-of-hash}
 use Rattle.bank.specs.Rules.{placeFault, reply, fed, piece, opening, update, digest, count, close}
 use Rattle.bank.specs.Slots.{slotGood, slotUpdated, slotDigested, slotCounted, slots, slotAnswer, hashAnswer, countAnswer}
 use Rattle.bank.specs.declared.piece.Piece.{Piece}

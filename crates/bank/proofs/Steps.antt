@@ -12,8 +12,8 @@ use lib.Seq.{drop-cons}
 use Rattle.definitions.specs.Words.{pad}
 use Rattle.laws.specs.Chain.{zeros}
 use Rattle.numbers.specs.Numbers.{accepted, slot-number, bad-record}
-use Rattle.blake2b.specs.Hash.{zeroHash}
-use Rattle.blake2b.specs.declared.hash.Hash.{Hash}
+use Rattle.hash.specs.Hash.{zeroHash}
+use Rattle.hash.specs.declared.Hash.{Hash}
 use Rattle.bank.specs.Rules.{Ask, opening, update, digest, digest-to, count, close, on, refusal, reply, every, goodAsk, at, fault, step}
 use Rattle.bank.specs.Slots.{slots, slot-limit, told, bankAnswer, slotAnswer, hashAnswer, countAnswer}
 use Rattle.bank.specs.declared.bank.Bank.{Bank}

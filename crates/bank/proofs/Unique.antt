@@ -2,7 +2,7 @@
 -- Assumes nothing.
 use mathlib.Core.Path.{_≡_}
 use denote.Ref.{now}
-use Rattle.blake2b.proofs.Unique.{unique}
+use Rattle.hash.proofs.Unique.{unique}
 use Rattle.bank.proofs.bank.Bank.new.Reads as bank-new
 use Rattle.bank.proofs.bank.Bank.open.Reads as bank-open
 use Rattle.bank.proofs.bank.Bank.update.Reads as bank-update

@@ -10,10 +10,10 @@ use lib.Dec.{leb, eqb}
 use lib.ListN.{length}
 use Rattle.laws.specs.Buffer.{over}
 use Rattle.numbers.specs.Numbers.{accepted, slot-closed}
-use Rattle.blake2b.specs.Hash.{isDigestLength, hashInRange, hashOf, digestOf, mayWrite, writtenAnswered, writtenOver}
-use Rattle.blake2b.specs.declared.hash.LengthAnswer.{LengthAnswer}
-use Rattle.blake2b.specs.declared.hash.HashAnswer.{HashAnswer}
-use Rattle.blake2b.proofs.Digests.{digest-of-hash}
+use Rattle.hash.specs.Hash.{isDigestLength, hashInRange, hashOf, digestOf, mayWrite, writtenAnswered, writtenOver}
+use Rattle.hash.specs.declared.LengthAnswer.{LengthAnswer}
+use Rattle.hash.specs.declared.HashAnswer.{HashAnswer}
+use Rattle.hash.proofs.Digests.{digest-of-hash}
 use Rattle.blake2b.proofs.Sizes.{digest-sized}
 use Rattle.bank.specs.Rules.{digest, digest-to, on, refusal, numbered, written, reply, at, fault, step}
 use Rattle.bank.specs.Slots.{slots, slot-limit, slotDigested, told, hashAnswer, lengthAnswer}

@@ -4,11 +4,11 @@ use mathlib.Core.Bool.{Bool, true, false, cond}
 use mathlib.Core.List.{List, []}
 use Prim.Native.Nat.{ℕ}
 use lib.ListN.{replicate}
-use Rattle.blake2b.specs.Hash.{hashOf, digestOf}
+use Rattle.hash.specs.Hash.{hashOf, digestOf}
 use Rattle.blake2b.specs.State.{stateInRange, zeroState, fresh}
 use Rattle.blake2b.specs.State as state
-use Rattle.blake2b.specs.declared.hash.HashAnswer.{HashAnswer}
-use Rattle.blake2b.specs.declared.hash.LengthAnswer.{LengthAnswer}
+use Rattle.hash.specs.declared.HashAnswer.{HashAnswer}
+use Rattle.hash.specs.declared.LengthAnswer.{LengthAnswer}
 use Rattle.blake2b.specs.declared.state.CountAnswer.{CountAnswer}
 use Rattle.bank.specs.Rules.{Answer, Reply, Result, Kind, Call, numbered, step}
 use Rattle.bank.specs.declared.slot.Slot.{Slot}

@@ -1,6 +1,5 @@
 pub mod Buffered
 pub mod Cleaned
-pub mod Digests
 pub mod OneShot
 pub mod Pushes
 pub mod Ranges
@@ -8,5 +7,4 @@ pub mod Rows
 pub mod Setters
 pub mod Sizes
 pub mod States
-pub mod Turns
 pub mod Unique

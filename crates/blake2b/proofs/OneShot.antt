@@ -16,10 +16,10 @@ use Rattle.laws.proofs.Calls.{untruncated-through}
 use Rattle.numbers.specs.Numbers.{accepted, total-over, bad-record, limit}
 use Rattle.guts.specs.Guts.{isLastNode}
 use Rattle.guts.specs.declared.LastNode.{LastNode}
-use Rattle.blake2b.specs.Hash.{isDigestLength, hashOf, noHash, madeFrom}
+use Rattle.hash.specs.Hash.{isDigestLength, hashOf, noHash, madeFrom}
 use Rattle.blake2b.specs.Params.{defaults, inRange, asked, front}
 use Rattle.blake2b.specs.State.{lastNodeOf, pushed, total, stateInRange, fresh, updated, finalized, digest, hashed}
-use Rattle.blake2b.specs.declared.hash.HashAnswer.{HashAnswer}
+use Rattle.hash.specs.declared.HashAnswer.{HashAnswer}
 use Rattle.blake2b.specs.declared.params.Params.{Params}
 use Rattle.blake2b.specs.declared.state.StateAnswer.{StateAnswer}
 use Rattle.blake2b.proofs.Pushes.{sound-fresh, range-fresh, range-pushed, digest-pushed}

@@ -22,12 +22,12 @@ use Rattle.laws.proofs.Calls.{untruncated-through}
 use Rattle.laws.proofs.Lifts.{after, after-is}
 use Rattle.laws.proofs.Serial.{serial-late}
 use Rattle.numbers.specs.Numbers.{limit}
-use Rattle.blake2b.specs.Hash.{isDigestLength}
+use Rattle.hash.specs.Hash.{isDigestLength}
 use Rattle.blake2b.specs.Params.{asked, front}
 use Rattle.blake2b.specs.State.{core, machine, pending, pushed, total, rangeOf, stateInRange, fresh, closedDigest, digest}
 use Rattle.blake2b.specs.declared.params.Params.{Params}
 use Rattle.blake2b.specs.declared.state.State.{State}
-use Rattle.blake2b.proofs.Digests.{digest-length-is, digest-length-bounds}
+use Rattle.hash.proofs.Digests.{digest-length-is, digest-length-bounds}
 use Rattle.blake2b.proofs.Ranges.{InRange, in-range, range-last}
 use Rattle.blake2b.proofs.States.{lawful, store}
 

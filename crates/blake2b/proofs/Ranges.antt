@@ -6,9 +6,9 @@ use Prim.Native.Nat.{ℕ, _+_, _<_, _≤_}
 use borrow.Author.Tests.{not-true, not-false, le-leb, lt-leb, leb-true}
 use lib.Dec.{leb}
 use Rattle.numbers.specs.Numbers.{limit}
-use Rattle.blake2b.specs.Hash.{isDigestLength}
+use Rattle.hash.specs.Hash.{isDigestLength}
 use Rattle.blake2b.specs.State.{rangeOf}
-use Rattle.blake2b.proofs.Digests.{digest-length-bounds}
+use Rattle.hash.proofs.Digests.{digest-length-bounds}
 
 module _ (n b t : ℕ) (keyed : Bool) {q : Bool} (e : q ≡ isDigestLength n) where
   pub range-digest : not q ≡ true → false ≡ rangeOf n b t keyed

@@ -25,7 +25,7 @@ use Rattle.blake2b.specs.Row as row
 use Rattle.blake2b.specs.declared.params.Params.{Params}
 use Rattle.blake2b.specs.declared.state.State.{State}
 use Rattle.blake2b.specs.declared.state.StateAnswer.{StateAnswer}
-use Rattle.blake2b.proofs.Digests.{digest-of-hash}
+use Rattle.hash.proofs.Digests.{digest-of-hash}
 use Rattle.blake2b.proofs.OneShot.{digest-asked, updated-within, finalized-within}
 use Rattle.blake2b.proofs.Pushes.{front-short, length-front, sound-fresh, range-fresh, range-pushed, total-pushed, digest-after, digest-pushed}
 use Rattle.blake2b.proofs.States.{lawful, tight, store}

@@ -14,10 +14,10 @@ use Rattle.laws.specs.Chain.{through, ended}
 use Rattle.laws.specs.Blocks.{onBytes, throughBlocks}
 use Rattle.laws.proofs.Bytes.{length-flat}
 use Rattle.numbers.specs.Numbers.{accepted, bad-record}
-use Rattle.blake2b.specs.Hash.{isDigestLength, digestOf}
+use Rattle.hash.specs.Hash.{isDigestLength, digestOf}
 use Rattle.blake2b.specs.State.{pending, stateInRange, closedDigest, finalized}
 use Rattle.blake2b.specs.declared.state.State.{State}
-use Rattle.blake2b.proofs.Digests.{digest-of-hash, digest-length-is}
+use Rattle.hash.proofs.Digests.{digest-of-hash, digest-length-is}
 use Rattle.blake2b.proofs.Ranges.{in-range}
 
 -- a run of blocks ends in a call of F, which answers eight words

@@ -23,9 +23,9 @@ use Rattle.laws.proofs.Serial.{serial-lawful}
 use Rattle.numbers.specs.Numbers.{accepted, total-over, bad-record, limit}
 use Rattle.guts.specs.Guts.{isLastNode}
 use Rattle.guts.specs.declared.LastNode.{LastNode}
-use Rattle.blake2b.specs.Hash.{isDigestLength, hashOf, noHash, madeFrom}
+use Rattle.hash.specs.Hash.{isDigestLength, hashOf, noHash, madeFrom}
 use Rattle.blake2b.specs.Params.{inRange, asked, front}
-use Rattle.blake2b.specs.declared.hash.HashAnswer.{HashAnswer}
+use Rattle.hash.specs.declared.HashAnswer.{HashAnswer}
 use Rattle.blake2b.specs.State.{core, holding, machine, pending, moved, pushed, total, stateInRange, zeroState, fresh, opened, updated, withLastNode, lastNodeSet, lastNodeOf, finalized, counted}
 use Rattle.blake2b.specs.declared.params.Params.{Params}
 use Rattle.blake2b.specs.declared.state.State.{State}

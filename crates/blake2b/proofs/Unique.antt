@@ -1,18 +1,7 @@
 -- Two answers that meet a public promise are equal, for every public function: one law, cited of the contract itself. A weaker promise
 -- would be refused here. Assumes nothing.
-use mathlib.Core.Path.{_≡_, sym, _∙_}
-use denote.Ref.{now}
-use Rattle.blake2b.proofs.hash.Hash.zero.Reads as hash-zero
-use Rattle.blake2b.proofs.hash.Hash.from_words.Reads as hash-from-words
-use Rattle.blake2b.proofs.hash.Hash.from_bytes.Reads as hash-from-bytes
-use Rattle.blake2b.proofs.hash.Hash.in_range.Reads as hash-in-range
-use Rattle.blake2b.proofs.hash.Hash.len.Reads as hash-len
-use Rattle.blake2b.proofs.hash.Hash.equals.Reads as hash-equals
-use Rattle.blake2b.proofs.hash.Hash.equals_bytes.Reads as hash-equals-bytes
-use Rattle.blake2b.proofs.hash.Hash.write_bytes.Reads as hash-write-bytes
-use Rattle.blake2b.proofs.hash.Hash.write_hex.Reads as hash-write-hex
-use Rattle.blake2b.proofs.hash.Hash.written_bytes.Reads as hash-written-bytes
-use Rattle.blake2b.proofs.hash.Hash.written_hex.Reads as hash-written-hex
+use mathlib.Core.Path.{_≡_}
+use Rattle.hash.proofs.Unique.{unique}
 use Rattle.blake2b.proofs.params.Params.new.Reads as params-new
 use Rattle.blake2b.proofs.params.Params.in_range.Reads as params-in-range
 use Rattle.blake2b.proofs.params.Params.hash_length.Reads as params-hash-length
@@ -41,43 +30,6 @@ use Rattle.blake2b.proofs.state.State.finalize.Reads as state-finalize
 use Rattle.blake2b.proofs.state.State.set_last_node.Reads as state-set-last-node
 use Rattle.blake2b.proofs.state.State.count.Reads as state-count
 use Rattle.blake2b.proofs.state.blake2b.Reads as blake2b
-
--- what a promise `r ≡ answer` settles
-pub unique : {A : Type 0} {a r q : A} → r ≡ a → q ≡ a → r ≡ q
-unique e f = e ∙ sym f
-
-pub hash-zero-unique : (κs : _) (args : _) (r q : _) (exit : _) → hash-zero.Post κs args r exit → hash-zero.Post κs args q exit → r ≡ q
-hash-zero-unique κs args r q exit e f = unique e f
-
-pub hash-from-words-unique : (κs : _) (args : _) (r q : _) (exit : _) → hash-from-words.Post κs args r exit → hash-from-words.Post κs args q exit → r ≡ q
-hash-from-words-unique κs args r q exit e f = unique e f
-
-pub hash-from-bytes-unique : (κs : _) (args : _) (r q : _) (exit : _) → hash-from-bytes.Post κs args r exit → hash-from-bytes.Post κs args q exit → r ≡ q
-hash-from-bytes-unique κs args r q exit e f = unique e f
-
-pub hash-in-range-unique : (κs : _) (args : _) (r q : _) (exit : _) → hash-in-range.Post κs args r exit → hash-in-range.Post κs args q exit → r ≡ q
-hash-in-range-unique κs args r q exit e f = unique e f
-
-pub hash-len-unique : (κs : _) (args : _) (r q : _) (exit : _) → hash-len.Post κs args r exit → hash-len.Post κs args q exit → r ≡ q
-hash-len-unique κs args r q exit e f = unique e f
-
-pub hash-equals-unique : (κs : _) (args : _) (r q : _) (exit : _) → hash-equals.Post κs args r exit → hash-equals.Post κs args q exit → r ≡ q
-hash-equals-unique κs args r q exit e f = unique e f
-
-pub hash-equals-bytes-unique : (κs : _) (args : _) (r q : _) (exit : _) → hash-equals-bytes.Post κs args r exit → hash-equals-bytes.Post κs args q exit → r ≡ q
-hash-equals-bytes-unique κs args r q exit e f = unique e f
-
-pub hash-write-bytes-unique : (κs : _) (args : _) (r q : _) (x y : _) → hash-write-bytes.Post κs args r x → hash-write-bytes.Post κs args q y → (r ≡ q) × (now (x .1 .0) ≡ now (y .1 .0))
-hash-write-bytes-unique κs args r q x y e f = (unique (e .0) (f .0), unique (e .1) (f .1))
-
-pub hash-write-hex-unique : (κs : _) (args : _) (r q : _) (x y : _) → hash-write-hex.Post κs args r x → hash-write-hex.Post κs args q y → (r ≡ q) × (now (x .1 .0) ≡ now (y .1 .0))
-hash-write-hex-unique κs args r q x y e f = (unique (e .0) (f .0), unique (e .1) (f .1))
-
-pub hash-written-bytes-unique : (κs : _) (args : _) (r q : _) (exit : _) → hash-written-bytes.Post κs args r exit → hash-written-bytes.Post κs args q exit → now r ≡ now q
-hash-written-bytes-unique κs args r q exit e f = unique e f
-
-pub hash-written-hex-unique : (κs : _) (args : _) (r q : _) (exit : _) → hash-written-hex.Post κs args r exit → hash-written-hex.Post κs args q exit → now r ≡ now q
-hash-written-hex-unique κs args r q exit e f = unique e f
 
 pub params-new-unique : (κs : _) (args : _) (r q : _) (exit : _) → params-new.Post κs args r exit → params-new.Post κs args q exit → r ≡ q
 params-new-unique κs args r q exit e f = unique e f

@@ -1,4 +1,3 @@
-pub mod Hash
 pub mod Params
 pub mod State
 pub mod Row

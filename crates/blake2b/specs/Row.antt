@@ -10,7 +10,7 @@ use Rattle.definitions.specs.Hash.{Parameters, keyed, hash}
 use Rattle.numbers.specs.Numbers.{accepted, total-over, limit}
 use Rattle.blake2b.specs.State.{updated, finalized}
 use Rattle.blake2b.specs.State as state
-use Rattle.blake2b.specs.Hash.{digestOf}
+use Rattle.hash.specs.Hash.{digestOf}
 use Rattle.blake2b.specs.declared.state.State.{State}
 
 pub data Call : Type 0 where

@@ -15,9 +15,9 @@ use Rattle.laws.specs.Buffer as buffer
 use Rattle.numbers.specs.Numbers.{accepted, total-over, bad-record, limit}
 use Rattle.guts.specs.declared.LastNode.{LastNode}
 use Rattle.guts.specs.declared.LastNode.the-variants as lastNode
-use Rattle.blake2b.specs.Hash.{isDigestLength, hashOf, noHash}
+use Rattle.hash.specs.Hash.{isDigestLength, hashOf, noHash}
 use Rattle.blake2b.specs.Params.{inRange, asked, front}
-use Rattle.blake2b.specs.declared.hash.HashAnswer.{HashAnswer}
+use Rattle.hash.specs.declared.HashAnswer.{HashAnswer}
 use Rattle.blake2b.specs.declared.params.Params.{Params}
 use Rattle.blake2b.specs.declared.state.State.{State}
 use Rattle.blake2b.specs.declared.state.StateAnswer.{StateAnswer}

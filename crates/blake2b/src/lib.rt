@@ -1,6 +1,5 @@
-// Module 3: BLAKE2b with all its parameters, one-shot or piece by piece, and its digests.
+// Module 3: BLAKE2b with all its parameters, one-shot or piece by piece; its digests are of the crate hash.
 // Public: every call is total, and its promise settles its whole answer.
-mod hash;
 mod params;
 mod state;
 

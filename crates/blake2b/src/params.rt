@@ -1,8 +1,9 @@
 // The parameters: the defaults, a setter for each, and the words that a hash starts from.
 // A setter overwrites its whole field, so that nothing of an older value stays.
-use crate::hash::is_digest_length;
 use guts::padded;
 use guts::zero_block;
+use hash::OUTBYTES;
+use hash::is_digest_length;
 use numbers::ACCEPTED;
 use numbers::DIGEST_LENGTH;
 use numbers::INNER_LENGTH;
@@ -20,7 +21,7 @@ ghost use Rattle.definitions.specs.Words.{pad};
 ghost use Rattle.definitions.specs.Family.{BLAKE2b};
 ghost use Rattle.definitions.specs.Hash.{start};
 ghost use Rattle.numbers.specs.Numbers.{accepted, digest-length, key-length, salt-length, personal-length, inner-length};
-ghost use Rattle.blake2b.specs.Hash.{isDigestLength};
+ghost use Rattle.hash.specs.Hash.{isDigestLength};
 ghost use Rattle.blake2b.specs.Params.{defaults, inRange, asked, answered, withNumber, withKey, withSalt, withPersonal, withLastNode, hash-length-at, fanout-at, max-depth-at, max-leaf-length-at, node-offset-at, node-depth-at, inner-hash-length-at};
 
 pub struct Params {
@@ -77,7 +78,7 @@ fn answer(number: u8, params: Params) -> ParamsAnswer
 }
 
 impl Params {
-    pub const OUTBYTES: usize = 64;
+    pub const OUTBYTES: usize = OUTBYTES;
 
     pub const KEYBYTES: usize = 64;
 

@@ -1,13 +1,14 @@
 // The state of a hash that takes its message piece by piece, and the hash of a whole message.
 // A last block, also a full one, waits in the buffer until more has come.
-use crate::hash::Hash;
-use crate::hash::HashAnswer;
-use crate::hash::is_digest_length;
 use crate::params::Params;
 use guts::Finalize;
 use guts::LastNode;
 use guts::Stride;
+use guts::offset_slice;
 use guts::zero_block;
+use hash::Hash;
+use hash::HashAnswer;
+use hash::is_digest_length;
 use numbers::ACCEPTED;
 use numbers::LIMIT;
 use numbers::RECORD;
@@ -17,12 +18,12 @@ use portable::compress1_loop;
 ghost use mathlib.Core.Path.{_≡_};
 ghost use mathlib.Core.List.{_++_};
 ghost use Prim.Native.Nat.{_+_, _*_, _^_, _<_, _≤_};
-ghost use lib.ListN.{length, drop};
+ghost use lib.ListN.{length};
 ghost use lib.Seq.{paste};
 ghost use Rattle.definitions.specs.Family.{BLAKE2b};
 ghost use Rattle.laws.specs.Chain.{spare, absorb};
 ghost use Rattle.laws.specs.Blocks.{onBytes};
-ghost use Rattle.blake2b.specs.Hash.{hashOf, noHash};
+ghost use Rattle.hash.specs.Hash.{hashOf};
 ghost use Rattle.blake2b.specs.Params.{defaults};
 ghost use Rattle.blake2b.specs.State.{lastNodeOf, rangeOf, stateInRange, zeroState, fresh, opened, pending, moved, updated, lastNodeSet, finalized, counted, digest, hashed};
 
@@ -112,14 +113,6 @@ fn spare_blocks(n: usize) -> usize
         return 0;
     }
     (n - 1) / Params::BLOCKBYTES
-}
-
-// The part of the input that is not yet taken, n bytes of it being.
-fn not_taken<'a>(input: &'a [u8], n: usize) -> &'a [u8]
-    requires { ⌜ n ≤ length (now input) ⌝ }
-    ensures { λ r. ⌜ now r ≡ drop n (now (input .entry)) ⌝ }
-{
-    &input[n..]
 }
 
 impl State {
@@ -212,7 +205,7 @@ impl State {
         let blocks = spare_blocks(input.len());
         let end = Params::BLOCKBYTES * blocks;
         let s = self.compress_blocks(&input[..end], blocks);
-        s.fill_buf(not_taken(input, end))
+        s.fill_buf(offset_slice(input, end))
     }
 
     // The buffer has no room for the input: it is filled and goes, and the rest follows.
@@ -223,7 +216,7 @@ impl State {
         let room = Params::BLOCKBYTES - self.buflen;
         let full = self.fill_buf(&input[..room]);
         let s = full.compress_buffer();
-        s.take_long(not_taken(input, room))
+        s.take_long(offset_slice(input, room))
     }
 
     pub fn update(self, input: &[u8]) -> StateAnswer
@@ -271,7 +264,7 @@ impl State {
     {
         let held = self.buflen;
         if !range_of(self.hash_length, held, self.count, self.is_keyed) {
-            return refused(RECORD);
+            return HashAnswer::refused(RECORD);
         }
         let w = self.words;
         let b = self.buf;
@@ -328,15 +321,6 @@ impl State {
     }
 }
 
-fn refused(number: u8) -> HashAnswer
-    ensures { λ r. ⌜ r ≡ noHash number ⌝ }
-{
-    HashAnswer {
-        number,
-        hash: Hash::zero(),
-    }
-}
-
 impl Params {
     // The state of no message bytes: the key block waits in the buffer where there is a key.
     pub(crate) fn with_params(self) -> State
@@ -389,12 +373,12 @@ impl Params {
         ensures { λ r. ⌜ r ≡ hashed self (now (input .entry)) ⌝ }
     {
         if !self.in_range() {
-            return refused(RECORD);
+            return HashAnswer::refused(RECORD);
         }
         if self.key_length > 0 {
             let taken = self.with_params().update(input);
             if taken.number != ACCEPTED {
-                return refused(TOTAL);
+                return HashAnswer::refused(TOTAL);
             }
             let state = taken.state;
             return state.finalize();

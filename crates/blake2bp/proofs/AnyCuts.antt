@@ -11,7 +11,7 @@ use Rattle.laws.specs.Buffer.{joined}
 use Rattle.laws.proofs.Buffers.{Sound}
 use Rattle.laws.proofs.TwoRows.{pushed-nothing}
 use Rattle.numbers.specs.Numbers.{accepted, limit}
-use Rattle.blake2b.specs.Hash.{hashOf}
+use Rattle.hash.specs.Hash.{hashOf}
 use Rattle.blake2bp.specs.State.{core, holding, machine, pushed, total, stateInRange, keyBytes, fresh, reached, finalized, counted, digest}
 use Rattle.blake2bp.specs.declared.params.Params.{Params}
 use Rattle.blake2bp.specs.declared.state.State.{State}

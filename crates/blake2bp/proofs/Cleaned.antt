@@ -9,7 +9,7 @@ use lib.Dec.{leb}
 use lib.ListN.{length}
 use Rattle.definitions.proofs.Lengths.{length-pad}
 use Rattle.laws.specs.Chain.{zeros}
-use Rattle.blake2b.specs.Hash.{isDigestLength}
+use Rattle.hash.specs.Hash.{isDigestLength}
 use Rattle.blake2bp.specs.Params.{defaults, inRange, answered, withHashLength, withKey, Setting, hash-length, key, afterSetting}
 use Rattle.blake2bp.specs.declared.params.Params.{Params}
 use Rattle.blake2bp.proofs.Setters.{digest-asked, key-short}

@@ -17,8 +17,8 @@ use Rattle.laws.specs.Leaves.{rooted, leafStarts, rootStart}
 use Rattle.laws.proofs.Images.{finished-image}
 use Rattle.laws.proofs.Trees.{row-none, rooted-is-tree}
 use Rattle.numbers.specs.Numbers.{accepted, total-over, bad-record, limit}
-use Rattle.blake2b.specs.Hash.{hashOf, noHash, madeFrom}
-use Rattle.blake2b.specs.declared.hash.HashAnswer.{HashAnswer}
+use Rattle.hash.specs.Hash.{hashOf, noHash, madeFrom}
+use Rattle.hash.specs.declared.HashAnswer.{HashAnswer}
 use Rattle.blake2b.proofs.States.{made-hash}
 use Rattle.blake2bp.specs.Leaves.{leafOf, wordsOf, onLeaf}
 use Rattle.blake2bp.specs.Params.{defaults, inRange, keyOf}

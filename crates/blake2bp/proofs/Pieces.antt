@@ -24,8 +24,8 @@ use Rattle.laws.proofs.TwoRows as two-rows
 use Rattle.laws.proofs.Pastes.{pad-none}
 use Rattle.laws.proofs.Trees.{length-row, row-some, row-none, tree-any-cuts}
 use Rattle.numbers.specs.Numbers.{limit}
-use Rattle.blake2b.specs.Hash.{isDigestLength}
-use Rattle.blake2b.proofs.Digests.{digest-length-bounds}
+use Rattle.hash.specs.Hash.{isDigestLength}
+use Rattle.hash.proofs.Digests.{digest-length-bounds}
 use Rattle.blake2bp.specs.Leaves.{leafOf, wordsOf, onLeaf}
 use Rattle.blake2bp.specs.Params.{keyOf}
 use Rattle.blake2bp.specs.State.{core, holding, machine, pending, pushed, total, stateInRange, front, keyBytes, fresh, reached, closedDigest, digest}

@@ -6,8 +6,8 @@ use Prim.Native.Nat.{ℕ, _<_, _≤_}
 use borrow.Author.Tests.{not-true, not-false, le-leb, lt-leb, leb-true}
 use lib.Dec.{leb}
 use Rattle.numbers.specs.Numbers.{limit}
-use Rattle.blake2b.specs.Hash.{isDigestLength}
-use Rattle.blake2b.proofs.Digests.{digest-length-bounds, digest-length-is}
+use Rattle.hash.specs.Hash.{isDigestLength}
+use Rattle.hash.proofs.Digests.{digest-length-bounds, digest-length-is}
 use Rattle.blake2bp.specs.State.{totalOf, rangeOf}
 
 module _ (n b t : ℕ) (keyed : Bool) {q : Bool} (e : q ≡ isDigestLength n) where

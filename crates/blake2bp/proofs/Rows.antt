@@ -11,7 +11,7 @@ use lib.ListN.{length, length-append}
 use Rattle.laws.specs.Buffer.{joined}
 use Rattle.numbers.specs.Numbers.{accepted, total-over, limit}
 use Rattle.blake2b.specs.Row.{Call, update, digest, count, Answer, taken, digested}
-use Rattle.blake2b.proofs.Digests.{digest-of-hash}
+use Rattle.hash.proofs.Digests.{digest-of-hash}
 use Rattle.blake2bp.specs.Params.{keyOf}
 use Rattle.blake2bp.specs.State.{pushed, total, keyBytes, fresh, reached, updated}
 use Rattle.blake2bp.specs.State as state

@@ -20,8 +20,8 @@ use Rattle.laws.proofs.Lifts.{Store}
 use Rattle.laws.proofs.Deals.{parallel-lawful}
 use Rattle.laws.proofs.TwoRows.{both-gone, half-gone}
 use Rattle.numbers.specs.Numbers.{accepted, total-over, bad-record, limit}
-use Rattle.blake2b.specs.Hash.{isDigestLength, noHash, madeFrom}
-use Rattle.blake2b.specs.declared.hash.HashAnswer.{HashAnswer}
+use Rattle.hash.specs.Hash.{isDigestLength, noHash, madeFrom}
+use Rattle.hash.specs.declared.HashAnswer.{HashAnswer}
 use Rattle.blake2b.proofs.States.{made-hash}
 use Rattle.blake2bp.specs.Leaves.{wordsOf, onLeaf}
 use Rattle.blake2bp.specs.Params.{inRange}

@@ -1,7 +1,7 @@
 -- Two answers that meet a public promise are equal, for every public function: BLAKE2b's one law, cited of the contract itself. A weaker
 -- promise would be refused here. Assumes nothing.
 use mathlib.Core.Path.{_≡_}
-use Rattle.blake2b.proofs.Unique.{unique}
+use Rattle.hash.proofs.Unique.{unique}
 use Rattle.blake2bp.proofs.params.Params.new.Reads as params-new
 use Rattle.blake2bp.proofs.params.Params.in_range.Reads as params-in-range
 use Rattle.blake2bp.proofs.params.Params.hash_length.Reads as params-hash-length

@@ -8,7 +8,7 @@ use lib.ListN.{length, take}
 use Rattle.definitions.specs.Words.{pad}
 use Rattle.laws.specs.Chain.{zeros}
 use Rattle.numbers.specs.Numbers.{accepted, digest-length, key-length, bad-record}
-use Rattle.blake2b.specs.Hash.{isDigestLength}
+use Rattle.hash.specs.Hash.{isDigestLength}
 use Rattle.blake2bp.specs.declared.params.Params.{Params}
 use Rattle.blake2bp.specs.declared.params.ParamsAnswer.{ParamsAnswer}
 

@@ -7,7 +7,7 @@ use lib.Dec.{leb}
 use lib.ListN.{length}
 use Rattle.definitions.specs.Tree.{BLAKE2bp}
 use Rattle.numbers.specs.Numbers.{accepted, total-over, limit}
-use Rattle.blake2b.specs.Hash.{digestOf}
+use Rattle.hash.specs.Hash.{digestOf}
 use Rattle.blake2b.specs.Row.{Call, update, digest, count, Answer, taken, digested, counted}
 use Rattle.blake2bp.specs.State.{updated, finalized}
 use Rattle.blake2bp.specs.State as state

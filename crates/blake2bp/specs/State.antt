@@ -14,8 +14,8 @@ use Rattle.laws.specs.Buffer as buffer
 use Rattle.laws.specs.Deal.{parallel, finished}
 use Rattle.laws.specs.Leaves.{rooted, keyedRow, leafStarts, rootStart}
 use Rattle.numbers.specs.Numbers.{accepted, total-over, bad-record, limit}
-use Rattle.blake2b.specs.Hash.{isDigestLength, hashOf, noHash}
-use Rattle.blake2b.specs.declared.hash.HashAnswer.{HashAnswer}
+use Rattle.hash.specs.Hash.{isDigestLength, hashOf, noHash}
+use Rattle.hash.specs.declared.HashAnswer.{HashAnswer}
 use Rattle.blake2bp.specs.Leaves.{leafOf, wordsOf, onLeaf}
 use Rattle.blake2bp.specs.Params.{inRange, keyOf}
 use Rattle.blake2bp.specs.declared.leaves.Leaf.{Leaf}

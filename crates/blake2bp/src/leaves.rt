@@ -21,7 +21,7 @@ ghost use Rattle.laws.specs.Chain.{zeros, through};
 ghost use Rattle.laws.specs.Deal.{dealt, finished};
 ghost use Rattle.laws.specs.Leaves.{rooted};
 ghost use Rattle.guts.specs.Guts.{finalizes, isLastNode};
-ghost use Rattle.blake2b.specs.Hash.{madeFrom};
+ghost use Rattle.hash.specs.Hash.{madeFrom};
 ghost use Rattle.blake2b.specs.State.{lastNodeOf};
 ghost use Rattle.blake2bp.specs.Leaves.{onLeaf, wordsOf, stateOf};
 

@@ -19,7 +19,7 @@ ghost use Rattle.definitions.specs.Tree.{parameters};
 ghost use Rattle.laws.specs.Chain.{zeros};
 ghost use Rattle.laws.specs.Leaves.{leafStarts, rootStart};
 ghost use Rattle.numbers.specs.Numbers.{digest-length, key-length};
-ghost use Rattle.blake2b.specs.Hash.{isDigestLength};
+ghost use Rattle.hash.specs.Hash.{isDigestLength};
 ghost use Rattle.blake2bp.specs.Leaves.{leafOf};
 ghost use Rattle.blake2bp.specs.Params.{defaults, inRange, answered, withHashLength, withKey};
 

@@ -23,7 +23,7 @@ ghost use lib.ListN.{length, drop};
 ghost use Rattle.definitions.specs.Words.{pad};
 ghost use Rattle.laws.specs.Chain.{zeros, spare};
 ghost use Rattle.laws.specs.Leaves.{rowOf};
-ghost use Rattle.blake2b.specs.Hash.{hashOf, noHash};
+ghost use Rattle.hash.specs.Hash.{hashOf, noHash};
 ghost use Rattle.blake2bp.specs.Params.{defaults};
 ghost use Rattle.blake2bp.specs.State.{pending, moved, rangeOf, stateInRange, zeroState, fresh, opened, updated, finalized, counted, leafCounted, bufferedIn, digest, hashed};
 

@@ -12,9 +12,9 @@ use Rattle.definitions.specs.Family.{BLAKE2b}
 use Rattle.definitions.specs.Hash.{start, stateBytes}
 use Rattle.laws.specs.Blocks.{throughBlocks}
 use Rattle.numbers.specs.Numbers.{accepted, total-over, piece-outside, job-unfinished, bad-record, limit, pieceOk}
-use Rattle.blake2b.specs.Hash.{isDigestLength, noHash, madeFrom}
+use Rattle.hash.specs.Hash.{isDigestLength, noHash, madeFrom}
 use Rattle.blake2b.specs.Params.{inRange, asked}
-use Rattle.blake2b.specs.declared.hash.HashAnswer.{HashAnswer}
+use Rattle.hash.specs.declared.HashAnswer.{HashAnswer}
 use Rattle.blake2b.specs.declared.params.Params.{Params}
 use Rattle.blake2b.proofs.States.{made-hash}
 use Rattle.many.specs.Job.{zeroJob, noJob, jobInRange, finishedAtOnce, keyBytes, firstWords, begun, madeJob, ran, inputOf, runOver, jobRefusal, jobHash}

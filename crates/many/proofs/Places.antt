@@ -9,7 +9,7 @@ use lib.ListN.{length, getD, take, drop}
 use Rattle.definitions.specs.Family.{BLAKE2b}
 use Rattle.definitions.specs.Hash.{hash}
 use Rattle.numbers.specs.Numbers.{accepted, job-unfinished, pieceOk}
-use Rattle.blake2b.specs.Hash.{hashOf, noHash}
+use Rattle.hash.specs.Hash.{hashOf, noHash}
 use Rattle.blake2b.specs.Params.{asked, keyOf, Clean}
 use Rattle.blake2b.specs.State.{digest, hashed}
 use Rattle.blake2b.specs.declared.params.Params.{Params}

@@ -14,7 +14,7 @@ use Rattle.laws.specs.Blocks.{onBytes, throughBlocks}
 use Rattle.laws.proofs.Calls.{untruncated-through}
 use Rattle.numbers.specs.Numbers.{accepted, total-over, piece-outside, bad-record, limit, pieceOk}
 use Rattle.numbers.proofs.Pieces.{inside}
-use Rattle.blake2b.specs.Hash.{hashOf}
+use Rattle.hash.specs.Hash.{hashOf}
 use Rattle.blake2b.specs.Params.{inRange, asked, front}
 use Rattle.blake2b.specs.State.{digest, hashed}
 use Rattle.blake2b.specs.declared.params.Params.{Params}

@@ -1,7 +1,7 @@
 -- Two answers that meet a public promise are equal, for every public function. A weaker promise would be refused here.
 -- Assumes nothing.
 use mathlib.Core.Path.{_≡_}
-use Rattle.blake2b.proofs.Unique.{unique}
+use Rattle.hash.proofs.Unique.{unique}
 use Rattle.many.proofs.job.HashManyJob.zero.Reads as job-zero
 use Rattle.many.proofs.job.HashManyJob.new.Reads as job-new
 use Rattle.many.proofs.job.HashManyJob.to_hash.Reads as job-to-hash

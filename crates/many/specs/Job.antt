@@ -10,9 +10,9 @@ use Rattle.definitions.specs.Hash.{start, stateBytes}
 use Rattle.laws.specs.Chain.{zeros}
 use Rattle.laws.specs.Blocks.{throughBlocks}
 use Rattle.numbers.specs.Numbers.{accepted, total-over, piece-outside, job-unfinished, bad-record, limit, pieceOk}
-use Rattle.blake2b.specs.Hash.{isDigestLength, hashOf, noHash}
+use Rattle.hash.specs.Hash.{isDigestLength, hashOf, noHash}
 use Rattle.blake2b.specs.Params.{inRange, asked}
-use Rattle.blake2b.specs.declared.hash.HashAnswer.{HashAnswer}
+use Rattle.hash.specs.declared.HashAnswer.{HashAnswer}
 use Rattle.blake2b.specs.declared.params.Params.{Params}
 use Rattle.many.specs.declared.job.HashManyJob.{HashManyJob}
 use Rattle.many.specs.declared.job.JobAnswer.{JobAnswer}

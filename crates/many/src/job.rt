@@ -22,7 +22,7 @@ ghost use Rattle.definitions.specs.Family.{BLAKE2b};
 ghost use Rattle.laws.specs.Blocks.{throughBlocks};
 ghost use Rattle.numbers.specs.Numbers.{accepted};
 ghost use Rattle.guts.specs.Guts.{finalizes, isLastNode};
-ghost use Rattle.blake2b.specs.Hash.{noHash};
+ghost use Rattle.hash.specs.Hash.{noHash};
 ghost use Rattle.many.specs.Job.{zeroJob, noJob, jobInRange, finishedAtOnce, keyBytes, firstWords, begun, madeJob, ran, runOver, jobRefusal, jobHash};
 
 pub struct HashManyJob {

@@ -6,7 +6,7 @@ use denote.Ref.{now}
 use lib.ListN.{length}
 use Rattle.numbers.specs.Numbers.{limit}
 use Rattle.blake2b.specs.State.{hashed}
-use Rattle.blake2b.specs.declared.hash.HashAnswer.{HashAnswer}
+use Rattle.hash.specs.declared.HashAnswer.{HashAnswer}
 use Rattle.blake2b.specs.declared.params.Params.{Params}
 use Rattle.blake2b.proofs.OneShot.{hashed-defaults}
 use borrow.Author.Needs.{needs}

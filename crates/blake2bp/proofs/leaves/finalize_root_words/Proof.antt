@@ -8,7 +8,7 @@ use Rattle.definitions.specs.Family.{BLAKE2b}
 use Rattle.definitions.specs.Hash.{stateBytes}
 use Rattle.laws.specs.Blocks.{throughBlocks}
 use Rattle.laws.specs.Leaves.{rooted}
-use Rattle.blake2b.specs.Hash.{madeFrom}
+use Rattle.hash.specs.Hash.{madeFrom}
 use Rattle.blake2bp.proofs.Turns.{flat-words}
 use borrow.Author.Needs.{needs}
 use Rattle.blake2bp.proofs.leaves.finalize_root_words.Statement.{statement}

@@ -5,7 +5,7 @@ use Prim.Native.Nat.{_≤_}
 use denote.Ref.{now}
 use lib.ListN.{length}
 use Rattle.numbers.specs.Numbers.{limit}
-use Rattle.blake2b.specs.declared.hash.HashAnswer.{HashAnswer}
+use Rattle.hash.specs.declared.HashAnswer.{HashAnswer}
 use Rattle.blake2bp.specs.State.{hashed}
 use Rattle.blake2bp.specs.declared.params.Params.{Params}
 use Rattle.blake2bp.proofs.OneShot.{hashed-defaults}

@@ -1,7 +1,7 @@
 -- `blake2bp::state::refused` meets its contract.
 -- Assumes nothing.
 use mathlib.Core.Path.{ap}
-use Rattle.blake2b.specs.declared.hash.Hash.{Hash}
+use Rattle.hash.specs.declared.Hash.{Hash}
 use borrow.Author.Needs.{needs}
 use Rattle.blake2bp.proofs.state.refused.Statement.{statement}
 use Rattle.blake2bp.proofs.state.refused.Tie as tie

@@ -1,7 +1,7 @@
 -- `many::job::refused_hash` meets its contract.
 -- Assumes nothing.
 use mathlib.Core.Path.{ap}
-use Rattle.blake2b.specs.declared.hash.Hash.{Hash}
+use Rattle.hash.specs.declared.Hash.{Hash}
 use borrow.Author.Needs.{needs}
 use Rattle.many.proofs.job.refused_hash.Statement.{statement}
 use Rattle.many.proofs.job.refused_hash.Tie as tie

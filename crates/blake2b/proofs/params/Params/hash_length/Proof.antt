@@ -3,7 +3,7 @@
 use mathlib.Core.Path.{sym, _∙_}
 use borrow.Author.Tests.{not-true, not-false}
 use native.Mathlib.Omega.{arith}
-use Rattle.blake2b.proofs.Digests.{digest-length-bounds}
+use Rattle.hash.proofs.Digests.{digest-length-bounds}
 use Rattle.blake2b.proofs.Setters.{answered-bad, answered-refused, answered-changed}
 use borrow.Author.Needs.{needs}
 use Rattle.blake2b.proofs.params.Params.hash_length.Statement.{statement}

@@ -5,7 +5,7 @@ use native.Mathlib.Omega.{arith}
 use borrow.Author.Tests.{not-false}
 use lib.ListN.{length, length-take}
 use Rattle.laws.specs.Buffer.{pending}
-use Rattle.blake2b.proofs.Digests.{digest-length-is}
+use Rattle.hash.proofs.Digests.{digest-length-is}
 use Rattle.blake2b.proofs.Ranges.{InRange, in-range}
 use Rattle.blake2b.proofs.States.{finalized-bad, finalized-made}
 use borrow.Author.Needs.{needs}

@@ -48,11 +48,11 @@ compress-buffer-requires c κs =
     let k = filled-count store machine lawful (s .args .self) (s .args .input .now) (sound-entry s) (e .more) (c .fill-buf .result) (c .fill-buf .ensures) in
     (filled-held store machine lawful (s .args .self) (s .args .input .now) (sound-entry s) (e .more) (c .fill-buf .result) (c .fill-buf .ensures), omega (arith, e .small, e .more, e .rest))
 
-not-taken-length : (c : tie.After-not-taken)
-    → length (now (c .not-taken .result)) ≡ length (c .before .before .before .before .before .before .args .input .now) - (128 - c .before .before .before .before .before .before .args .self .buflen)
-not-taken-length c =
+offset-slice-length : (c : tie.After-offset-slice)
+    → length (now (c .offset-slice .result)) ≡ length (c .before .before .before .before .before .before .args .input .now) - (128 - c .before .before .before .before .before .before .args .self .buflen)
+offset-slice-length c =
     let a = c .before .before .before .before .before .before .args in
-    ap length (c .not-taken .ensures) ∙ length-drop (128 - a .self .buflen) (a .input .now)
+    ap length (c .offset-slice .ensures) ∙ length-drop (128 - a .self .buflen) (a .input .now)
 
 take-long-requires : tie.Need-take-long-requires
 take-long-requires c κs =
@@ -60,7 +60,7 @@ take-long-requires c κs =
     let f = c .before .before in
     let s = f .before .before .before .before in
     let e = entry s in
-    let l = not-taken-length c in
+    let l = offset-slice-length c in
     let h = gone-held store machine lawful (s .args .self) (s .args .input .now) (sound-entry s) (e .more) (f .fill-buf .result) (f .fill-buf .ensures) (sized-full f) (b .result) 1 (b .ensures) in
     let k = gone-count store machine lawful (s .args .self) (s .args .input .now) (sound-entry s) (e .more) (f .fill-buf .result) (f .fill-buf .ensures) (sized-full f) (b .result) 1 (b .ensures) in
     (h, omega (arith, e .small, e .more, e .rest))
@@ -75,7 +75,7 @@ returns c =
     let e = entry s in
     let rest = drop (128 - a .self .buflen) (a .input .now) in
     spill-is store machine lawful (a .self) (a .input .now) (sound-entry s) (e .more) (f .fill-buf .result) (f .fill-buf .ensures) (sized-full f) (b .result) 1 (b .ensures) (c .take-long .result) (spare 128 0 (length rest))
-    (rw (t .not-taken .ensures) at (c .take-long .ensures)) (omega arith)
+    (rw (t .offset-slice .ensures) at (c .take-long .ensures)) (omega arith)
     (spare-one (a .self .buflen) (length (a .input .now)) (length rest) (e .held) (e .more) (length-drop (128 - a .self .buflen) (a .input .now)))
 
 pub spill-spec : {M : Type 1} → statement M

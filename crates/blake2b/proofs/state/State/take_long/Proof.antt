@@ -28,9 +28,6 @@ compress-blocks-requires c κs =
     let n = blocks-fit (c .before) in
     (search needs, simp length-take (omega arith), simp length-take (omega arith))
 
-not-taken-requires : tie.Need-not-taken-requires
-not-taken-requires c κs = blocks-fit (c .before .before) .0
-
 -- nothing waits behind whole blocks
 emptied : (c : tie.After-compress-blocks) → c .compress-blocks .result .buflen ≡ 0
 emptied c =
@@ -45,7 +42,7 @@ fill-buf-requires c κs =
     let q = c .before .before .before in
     let n = blocks-fit q in
     let z = emptied (c .before) in
-    let l = ap length (c .not-taken .ensures) ∙ length-drop (128 * q .spare-blocks .result) (q .before .before .args .input .now) in
+    let l = ap length (c .offset-slice .ensures) ∙ length-drop (128 * q .spare-blocks .result) (q .before .before .args .input .now) in
     omega arith
 
 returns : tie.Need-returns
@@ -56,7 +53,7 @@ returns c =
     let n = blocks-fit q in
     rw (← q .spare-blocks .ensures)
     (long-made store machine lawful (a .self) (t .before .compress-blocks .result) (c .fill-buf .result) (a .input .now) (q .spare-blocks .result) (128 * q .spare-blocks .result) refl (n .0) (search needs) (t .before .compress-blocks .ensures)
-    (rw (t .not-taken .ensures) at (c .fill-buf .ensures)))
+    (rw (t .offset-slice .ensures) at (c .fill-buf .ensures)))
 
 pub take-long-spec : {M : Type 1} → statement M
-take-long-spec = tie.close (tie.spec (λ c κs. search needs) mul-end slice-aggregate-compress-blocks compress-blocks-requires not-taken-requires fill-buf-requires returns)
+take-long-spec = tie.close (tie.spec (λ c κs. search needs) mul-end slice-aggregate-compress-blocks compress-blocks-requires (λ c κs. search needs) fill-buf-requires returns)

@@ -1,0 +1,3 @@
+pub mod Digests
+pub mod Turns
+pub mod Unique

@@ -1,0 +1,24 @@
+-- `hash::digit` meets its contract.
+-- Assumes nothing.
+use borrow.Author.Needs.{needs}
+use borrow.Author.Tests.{lt-ltb, le-ltb}
+use Rattle.hash.specs.Hash.{digitOf}
+use Rattle.hash.proofs.digit.Statement.{statement}
+use Rattle.hash.proofs.digit.Tie as tie
+
+add-result : tie.Need-add-result
+add-result c = search needs
+
+add-result-2 : tie.Need-add-result-2
+add-result-2 c = search needs
+
+returns : tie.Need-returns
+unfolding digitOf
+returns c = rw (lt-ltb (c .before .args .n) 10 (c .if1 .taken))
+
+returns-2 : tie.Need-returns-2
+unfolding digitOf
+returns-2 c = rw (le-ltb (c .before .args .n) 10 (c .if1 .left))
+
+pub digit-spec : {M : Type 1} → statement M
+digit-spec = tie.close (tie.spec add-result add-result-2 returns returns-2)

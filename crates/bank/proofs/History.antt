@@ -15,10 +15,10 @@ use lib.ListN.{length, replicate, length-append}
 use Rattle.definitions.specs.Family.{BLAKE2b}
 use Rattle.definitions.specs.Hash.{keyed}
 use Rattle.numbers.specs.Numbers.{limit}
+use Rattle.numbers.specs.Row as row
 use Rattle.blake2b.specs.Params.{defaults, inRange, front, keyOf, Clean, Setting, afterSetting}
 use Rattle.blake2b.specs.State.{pushed, fresh}
 use Rattle.blake2b.specs.State as state
-use Rattle.blake2b.specs.Row as row
 use Rattle.blake2b.specs.declared.params.Params.{Params}
 use Rattle.blake2b.specs.declared.state.State.{State}
 use Rattle.blake2b.specs.declared.state.StateAnswer.{StateAnswer}

@@ -17,11 +17,13 @@ use Rattle.laws.proofs.Lifts.{after}
 use Rattle.laws.proofs.Buffers.{Sound}
 use Rattle.laws.proofs.Buffers as buffers
 use Rattle.numbers.specs.Numbers.{accepted, total-over, limit}
+use Rattle.numbers.specs.Row.{Call, answers, digested}
+use Rattle.numbers.specs.Row as row
+use Rattle.numbers.proofs.Alike.{Alike, alike-answers}
 use Rattle.blake2b.specs.Params.{inRange, asked, front, keyOf, withLastNode, Clean}
 use Rattle.blake2b.specs.State.{core, holding, machine, pushed, total, stateInRange, fresh, updated, finalized, counted, closedDigest, hashed}
 use Rattle.blake2b.specs.State as state
-use Rattle.blake2b.specs.Row.{Call, update, digest, count, Answer, taken, digested, stateSays, stateAnswers, rowSays, rowAnswers}
-use Rattle.blake2b.specs.Row as row
+use Rattle.blake2b.specs.Row.{stateTaker, rowTaker}
 use Rattle.blake2b.specs.declared.params.Params.{Params}
 use Rattle.blake2b.specs.declared.state.State.{State}
 use Rattle.blake2b.specs.declared.state.StateAnswer.{StateAnswer}
@@ -79,14 +81,15 @@ module _ (p : Params) (clean : Clean p) (good : inRange p ≡ true) where
     length-keyed : length (keyed BLAKE2b (keyOf p) bytes) ≡ length (front p) + length bytes
     length-keyed = ap length (sym (front-keyed p clean bytes)) ∙ length-append (front p) bytes
 
-    pub says-digest : stateSays s digest ≡ rowSays (asked p) (p .«last_node») (keyOf p) bytes digest
+    pub says-digest : stateTaker .digested s ≡ rowTaker (asked p) (p .«last_node») (keyOf p) .digested bytes
     unfolding finalized
     says-digest = rw range-reached (ap (digested accepted) (digest-of-hash (closedDigest (pushed (fresh p) bytes)) ∙ digest-pushed p (clean .whole) bytes ∙ digest-is-hash p clean bytes))
 
     minus : (x y z : ℕ) → z ≡ x + y → z - x ≡ y
     minus x y z e = omega arith
 
-    pub says-count : stateSays s count ≡ rowSays (asked p) (p .«last_node») (keyOf p) bytes count
+    -- the count is the number of message bytes, the key block not counted
+    pub says-count : stateTaker .counted s ≡ rowTaker (asked p) (p .«last_node») (keyOf p) .counted bytes
     unfolding state.counted
     says-count =
         rw range-reached (ap (row.counted accepted) (minus (cond (leb 1 (p .«key_length»)) 128 0) (length bytes) (total (pushed (fresh p) bytes)) (total-reached ∙ ap (λ (n : ℕ). n + length bytes) (length-front p (clean .whole)))))
@@ -103,49 +106,41 @@ module _ (p : Params) (clean : Clean p) (good : inRange p ≡ true) where
         let f : leb (total s + length a) limit ≡ false = ap (λ (n : ℕ). leb (n + length a) limit) (total-reached ∙ sym length-keyed) ∙ e in
         rw (range-reached, f)
 
-  -- the answers from some bytes on agree
-  Agree : List Call → Type 0
-  Agree cs = (bytes : List ℕ) → length (front p) + length bytes ≤ limit → stateAnswers (pushed (fresh p) bytes) cs ≡ rowAnswers (asked p) (p .«last_node») (keyOf p) bytes cs
+    -- both at once, by the row's test
+    took : (a : List ℕ) (b : Bool) → leb (length (keyed BLAKE2b (keyOf p) bytes) + length a) limit ≡ b
+        → updated s a ≡ record { number = cond b accepted total-over; state = pushed (fresh p) (cond b (bytes ++ a) bytes) }
+    took a true e = updated-accepted a e
+    took a false e = updated-refused a e
 
-  -- an update whose test and answer are known, and the answers that follow it
-  turn : (a bytes : List ℕ) (cs : List Call) (b : Bool) (t : State) → leb (length (keyed BLAKE2b (keyOf p) bytes) + length a) limit ≡ b
-      → updated (pushed (fresh p) bytes) a ≡ record { number = cond b accepted total-over; state = t }
-      → stateAnswers t cs ≡ rowAnswers (asked p) (p .«last_node») (keyOf p) (cond b (bytes ++ a) bytes) cs
-      → stateAnswers (pushed (fresh p) bytes) (update a ∷ cs) ≡ rowAnswers (asked p) (p .«last_node») (keyOf p) bytes (update a ∷ cs)
-  unfolding stateAnswers rowAnswers
-  turn a bytes cs b t e f rest =
-      (λ i. taken (f i .number) ∷ stateAnswers (f i .state) cs)
-      ∙ ap (λ (l : List Answer). taken (cond b accepted total-over) ∷ l) rest
-      ∙ ap (λ (q : Bool). taken (cond q accepted total-over) ∷ rowAnswers (asked p) (p .«last_node») (keyOf p) (cond q (bytes ++ a) bytes) cs) (sym e)
+    fits : (a : List ℕ) (b : Bool) → leb (length (keyed BLAKE2b (keyOf p) bytes) + length a) limit ≡ b → length (front p) + length (cond b (bytes ++ a) bytes) ≤ limit
+    fits a true e =
+        let l = length-keyed in
+        let n = length-append bytes a in
+        omega (arith, leb-true (length (keyed BLAKE2b (keyOf p) bytes) + length a) limit e)
+    fits a false e = within
 
-  after-update : (a : List ℕ) (cs : List Call) → Agree cs → Agree (update a ∷ cs)
-  unfolding Agree
-  after-update a cs rest bytes within = split (leb (length (keyed BLAKE2b (keyOf p) bytes) + length a) limit) refl
-    where
-      split : (b : Bool) → leb (length (keyed BLAKE2b (keyOf p) bytes) + length a) limit ≡ b
-          → stateAnswers (pushed (fresh p) bytes) (update a ∷ cs) ≡ rowAnswers (asked p) (p .«last_node») (keyOf p) bytes (update a ∷ cs)
-      split true e =
-          let l = length-keyed bytes within in
-          let n = length-append bytes a in
-          let more : length (front p) + length (bytes ++ a) ≤ limit = omega (arith, leb-true (length (keyed BLAKE2b (keyOf p) bytes) + length a) limit e) in
-          turn a bytes cs true (pushed (fresh p) (bytes ++ a)) e (updated-accepted bytes within a e) (rest (bytes ++ a) more)
-      split false e = turn a bytes cs false (pushed (fresh p) bytes) e (updated-refused bytes within a e) (rest bytes within)
+  -- a state that took these bytes
+  record Took (s : State) (bytes : List ℕ) : Type 0 where
+    is : s ≡ pushed (fresh p) bytes
+    within : length (front p) + length bytes ≤ limit
 
-  agree : (cs : List Call) → Agree cs
-  unfolding Agree stateAnswers rowAnswers
-  agree [] bytes within = refl
-  agree (update a ∷ cs) bytes within = after-update a cs (agree cs) bytes within
-  agree (digest ∷ cs) bytes within = λ i. says-digest bytes within i ∷ agree cs bytes within i
-  agree (count ∷ cs) bytes within = λ i. says-count bytes within i ∷ agree cs bytes within i
+  stays-alike : Alike stateTaker (rowTaker (asked p) (p .«last_node») (keyOf p)) Took
+  stays-alike = record {
+    number = λ s bytes a e. ap (λ (t : State). updated t a .number) (e .is) ∙ ap (λ (u : StateAnswer). u .number) (took bytes (e .within) a _ refl);
+    next = λ s bytes a e. record {
+      is = ap (λ (t : State). updated t a .state) (e .is) ∙ ap (λ (u : StateAnswer). u .state) (took bytes (e .within) a _ refl);
+      within = fits bytes (e .within) a _ refl;
+    };
+    digested = λ s bytes e. ap (stateTaker .digested) (e .is) ∙ says-digest bytes (e .within);
+    counted = λ s bytes e. ap (stateTaker .counted) (e .is) ∙ says-count bytes (e .within);
+  }
 
-  pub history : (cs : List Call) → stateAnswers (fresh p) cs ≡ rowAnswers (asked p) (p .«last_node») (keyOf p) [] cs
+  -- whatever a fresh state is asked, it answers as the row of no bytes would
+  pub history : (cs : List Call) → answers stateTaker (fresh p) cs ≡ answers (rowTaker (asked p) (p .«last_node») (keyOf p)) [] cs
   history cs =
       let few = front-short p (clean .whole) in
-      ap (λ (t : State). stateAnswers t cs) (sym (pushed-none (fresh p) (sound-fresh p (clean .whole)))) ∙ unfold Agree in agree cs [] (omega arith)
-
-  -- the count is the number of message bytes, the key block not counted
-  pub count-of-bytes : (bytes : List ℕ) → length (front p) + length bytes ≤ limit → stateSays (pushed (fresh p) bytes) count ≡ row.counted accepted (length bytes)
-  count-of-bytes bytes within = says-count bytes within
+      alike-answers stateTaker (rowTaker (asked p) (p .«last_node») (keyOf p)) Took stays-alike cs (fresh p) []
+      (record { is = sym (pushed-none (fresh p) (sound-fresh p (clean .whole))); within = omega arith })
 
   -- the one-shot answer is that of a state that took the message, with a key or without
   pub one-shot-is-incremental : (m : List ℕ) → length (front p) + length m ≤ limit → hashed p m ≡ finalized (updated (fresh p) m .state)

@@ -1,28 +1,50 @@
 -- In any cuts the digest of a state is the paper's tree digest of the joined bytes, and its count their number. The record itself may differ
 -- by the cuts. Assumes nothing.
 use mathlib.Core.Path.{_≡_, refl, ap, _∙_}
-use mathlib.Core.Bool.{Bool, true, cond}
+use mathlib.Core.Bool.{Bool, true}
 use mathlib.Core.List.{List, [], _∷_, foldl}
 use Prim.Native.Nat.{ℕ, _+_, _-_, _≤_}
 use native.Mathlib.Omega.{arith}
+use borrow.Author.Tests.{le-leb}
 use lib.Dec.{leb}
-use lib.ListN.{length}
+use lib.ListN.{length, length-append}
 use Rattle.laws.specs.Buffer.{joined}
 use Rattle.laws.proofs.Buffers.{Sound}
 use Rattle.laws.proofs.TwoRows.{pushed-nothing}
 use Rattle.numbers.specs.Numbers.{accepted, limit}
 use Rattle.hash.specs.Hash.{hashOf}
-use Rattle.blake2bp.specs.State.{core, holding, machine, pushed, total, stateInRange, keyBytes, fresh, reached, finalized, counted, digest}
+use Rattle.blake2bp.specs.State.{core, holding, machine, pushed, total, keyRow, stateInRange, keyBytes, fresh, reached, updated, finalized, counted, digest}
 use Rattle.blake2bp.specs.declared.params.Params.{Params}
 use Rattle.blake2bp.specs.declared.state.State.{State}
+use Rattle.blake2bp.specs.declared.state.StateAnswer.{StateAnswer}
 use Rattle.blake2bp.proofs.Cleaned.{Good}
-use Rattle.blake2bp.proofs.Pieces.{total-fresh, sound-fresh, range-fresh, total-pieces, range-pieces, digest-of-pieces}
+use Rattle.blake2bp.proofs.Pieces.{total-fresh, sound-fresh, range-fresh, total-pieces, sound-pieces, range-pieces, digest-of-pieces}
 use Rattle.blake2bp.proofs.Setters.{digest-asked, key-short}
 use Rattle.blake2bp.proofs.States.{lawful}
 
 -- no bytes change nothing
 pub empty-changes-nothing : (s : State) → Sound machine (core s) → pushed s [] ≡ s
 empty-changes-nothing s sound = ap (holding s) (pushed-nothing machine lawful (core s) sound)
+
+-- the state that an update hands back
+abbrev pub next : State → List ℕ → State
+next s a = updated s a .state
+
+-- an update within the limit takes every byte
+pub updated-pushed : (s : State) (a : List ℕ) → stateInRange s ≡ true → total s + length a ≤ limit → updated s a ≡ record { number = accepted; state = pushed s a }
+unfolding updated
+updated-pushed s a good within = rw (good, le-leb (total s + length a) limit within)
+
+next-is-pushed : (s : State) (ps : List (List ℕ)) → Sound machine (core s) → stateInRange s ≡ true → total s + length (joined ps) ≤ limit → foldl next s ps ≡ foldl pushed s ps
+unfolding joined
+next-is-pushed s [] sound good within = refl
+next-is-pushed s (a ∷ ps) sound good within =
+    let n = length-append a (joined ps) in
+    let one = length-append a [] in
+    let few : total s + length (joined (a ∷ [])) ≤ limit = omega (arith, within) in
+    let t : total (pushed s a) ≡ total s + length (joined (a ∷ [])) = total-pieces s (a ∷ []) sound in
+    ap (λ (u : StateAnswer). foldl next (u .state) ps) (updated-pushed s a good (omega (arith, within)))
+    ∙ next-is-pushed (pushed s a) ps (sound-pieces s (a ∷ []) sound) (range-pieces s (a ∷ []) sound good few) (omega (arith, t, within))
 
 minus : (x y z : ℕ) → z ≡ x + y → z - x ≡ y
 minus x y z e = omega arith
@@ -32,6 +54,10 @@ module _ (p : Params) (good : Good p) where
   short = key-short p (good .ranged)
 
   module _ (ps : List (List ℕ)) (within : keyBytes p + length (joined ps) ≤ limit) where
+    reached-by-updates : foldl next (fresh p) ps ≡ reached p ps
+    reached-by-updates =
+        next-is-pushed (fresh p) ps (sound-fresh p (good .whole) short) (range-fresh p (good .whole) short (digest-asked p (good .ranged))) (rw (total-fresh p (good .whole) short) within)
+
     pub total-reached : total (reached p ps) ≡ keyBytes p + length (joined ps)
     total-reached = total-pieces (fresh p) ps (sound-fresh p (good .whole) short) ∙ ap (λ (n : ℕ). n + length (joined ps)) (total-fresh p (good .whole) short)
 
@@ -39,10 +65,9 @@ module _ (p : Params) (good : Good p) where
     range-reached =
         range-pieces (fresh p) ps (sound-fresh p (good .whole) short) (range-fresh p (good .whole) short (digest-asked p (good .ranged))) (rw (total-fresh p (good .whole) short) within)
 
-    -- in any cuts: the digest is the paper's tree digest of the joined bytes
-    pub digest-in-any-cuts : finalized (reached p ps) ≡ record { number = accepted; hash = hashOf (digest p (joined ps)) }
+    pub digest-reached : finalized (reached p ps) ≡ record { number = accepted; hash = hashOf (digest p (joined ps)) }
     unfolding finalized
-    digest-in-any-cuts = rw range-reached (ap (λ (d : List ℕ). record { number = accepted; hash = hashOf d }) (digest-of-pieces p (good .whole) short ps))
+    digest-reached = rw range-reached (ap (λ (d : List ℕ). record { number = accepted; hash = hashOf d }) (digest-of-pieces p (good .whole) short ps))
 
     keyed-flag : reached p ps .«is_keyed» ≡ leb 1 (p .«key_length»)
     keyed-flag = go (fresh p) ps
@@ -51,11 +76,18 @@ module _ (p : Params) (good : Good p) where
         go s [] = refl
         go s (a ∷ qs) = go (pushed s a) qs
 
-    -- and the count their number
-    pub count-in-any-cuts : counted (reached p ps) ≡ record { number = accepted; count = record { 0 = length (joined ps) } }
+    pub count-reached : counted (reached p ps) ≡ record { number = accepted; count = record { 0 = length (joined ps) } }
     unfolding counted
-    count-in-any-cuts =
-        let n : total (reached p ps) - cond (reached p ps .«is_keyed») 512 0 ≡ length (joined ps) =
-        ap (λ (b : Bool). total (reached p ps) - cond b 512 0) keyed-flag
+    count-reached =
+        let n : total (reached p ps) - keyRow (reached p ps .«is_keyed») ≡ length (joined ps) =
+        ap (λ (b : Bool). total (reached p ps) - keyRow b) keyed-flag
         ∙ minus (keyBytes p) (length (joined ps)) (total (reached p ps)) total-reached in
         rw (range-reached, n)
+
+    -- in any cuts: once every piece came by an update, the digest is the paper's tree digest of the joined bytes
+    pub digest-in-any-cuts : finalized (foldl next (fresh p) ps) ≡ record { number = accepted; hash = hashOf (digest p (joined ps)) }
+    digest-in-any-cuts = ap finalized reached-by-updates ∙ digest-reached
+
+    -- and the count their number
+    pub count-in-any-cuts : counted (foldl next (fresh p) ps) ≡ record { number = accepted; count = record { 0 = length (joined ps) } }
+    count-in-any-cuts = ap counted reached-by-updates ∙ count-reached

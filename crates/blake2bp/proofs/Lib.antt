@@ -8,5 +8,4 @@ pub mod Rows
 pub mod RunCases
 pub mod Setters
 pub mod States
-pub mod Turns
 pub mod Unique

@@ -1,12 +1,12 @@
 -- The two kinds of count: the message count is four times the leaf count and the bytes buffered, without the key blocks.
 -- Assumes nothing.
 use mathlib.Core.Path.{_≡_}
-use mathlib.Core.Bool.{true, cond}
+use mathlib.Core.Bool.{true}
 use Prim.Native.Nat.{_+_, _-_, _*_}
-use Rattle.blake2bp.specs.State.{stateInRange, counted, leafCounted, bufferedIn}
+use Rattle.blake2bp.specs.State.{keyRow, stateInRange, counted, leafCounted, bufferedIn}
 use Rattle.blake2bp.specs.declared.state.State.{State}
 
 -- of what the three calls answer
-pub message-count-of-leaf-count : (s : State) → stateInRange s ≡ true → counted s .count .0 ≡ 4 * leafCounted s .count .0 + bufferedIn s .buffered - cond (s .«is_keyed») 512 0
+pub message-count-of-leaf-count : (s : State) → stateInRange s ≡ true → counted s .count .0 ≡ 4 * leafCounted s .count .0 + bufferedIn s .buffered - keyRow (s .«is_keyed»)
 unfolding counted leafCounted bufferedIn
 message-count-of-leaf-count s e = rw e

@@ -20,16 +20,17 @@ use Rattle.numbers.specs.Numbers.{accepted, total-over, bad-record, limit}
 use Rattle.hash.specs.Hash.{hashOf, noHash, madeFrom}
 use Rattle.hash.specs.declared.HashAnswer.{HashAnswer}
 use Rattle.blake2b.proofs.States.{made-hash}
-use Rattle.blake2bp.specs.Leaves.{leafOf, wordsOf, onLeaf}
+use Rattle.leaves.specs.Leaves.{leafOf, wordsOf, onLeaf}
 use Rattle.blake2bp.specs.Params.{defaults, inRange, keyOf}
 use Rattle.blake2bp.specs.State.{pushed, total, stateInRange, keyBytes, fresh, updated, finalized, digest, hashed}
-use Rattle.blake2bp.specs.declared.leaves.Leaf.{Leaf}
+use Rattle.leaves.specs.declared.leaves.Leaf.{Leaf}
 use Rattle.blake2bp.specs.declared.params.Params.{Params}
 use Rattle.blake2bp.specs.declared.state.StateAnswer.{StateAnswer}
+use Rattle.blake2bp.proofs.AnyCuts.{updated-pushed}
 use Rattle.blake2bp.proofs.Cleaned.{good-defaults}
 use Rattle.blake2bp.proofs.Pieces.{length-key, key-fits, total-fresh, sound-fresh, range-fresh, range-pieces, digest-of-pieces, leaf-words}
 use Rattle.blake2bp.proofs.Setters.{digest-asked, key-short}
-use Rattle.blake2bp.proofs.Turns.{words-on-leaf}
+use Rattle.leaves.proofs.Turns.{words-on-leaf}
 
 joined-one : (a : List ℕ) → joined (a ∷ []) ≡ a
 unfolding joined
@@ -44,8 +45,7 @@ module _ (p : Params) (whole : length (p .key) ≡ 64) (good : inRange p ≡ tru
 
   -- one update of a fresh state, and then the digest
   pub updated-within : keyBytes p + length m ≤ limit → updated (fresh p) m ≡ record { number = accepted; state = pushed (fresh p) m }
-  unfolding updated
-  updated-within h = rw (in-range-fresh, total-fresh p whole short, le-leb (keyBytes p + length m) limit h)
+  updated-within h = updated-pushed (fresh p) m in-range-fresh (rw (total-fresh p whole short) h)
 
   pub finalized-within : keyBytes p + length m ≤ limit → finalized (pushed (fresh p) m) ≡ record { number = accepted; hash = hashOf (digest p m) }
   unfolding finalized

@@ -1,7 +1,7 @@
 -- The state that pieces lead to, in any cuts: it is in range, its total is the bytes' number, zeros lie behind its bytes, and its digest is
 -- the paper's tree of the joined bytes. Assumes nothing.
 use mathlib.Core.Path.{_≡_, refl, sym, ap, _∙_}
-use mathlib.Core.Bool.{Bool, true, false, cond}
+use mathlib.Core.Bool.{Bool, true, false}
 use mathlib.Core.List.{List, [], _∷_, map, foldl}
 use Prim.Native.Nat.{ℕ, _+_, _-_, _<_, _≤_}
 use native.Mathlib.Nat.{zero-add}
@@ -26,15 +26,15 @@ use Rattle.laws.proofs.Trees.{length-row, row-some, row-none, tree-any-cuts}
 use Rattle.numbers.specs.Numbers.{limit}
 use Rattle.hash.specs.Hash.{isDigestLength}
 use Rattle.hash.proofs.Digests.{digest-length-bounds}
-use Rattle.blake2bp.specs.Leaves.{leafOf, wordsOf, onLeaf}
+use Rattle.leaves.specs.Leaves.{leafOf, wordsOf, onLeaf}
 use Rattle.blake2bp.specs.Params.{keyOf}
-use Rattle.blake2bp.specs.State.{core, holding, machine, pending, pushed, total, stateInRange, front, keyBytes, fresh, reached, closedDigest, digest}
-use Rattle.blake2bp.specs.declared.leaves.Leaf.{Leaf}
+use Rattle.blake2bp.specs.State.{core, holding, machine, pending, pushed, total, keyRow, stateInRange, front, keyBytes, fresh, reached, closedDigest, digest}
+use Rattle.leaves.specs.declared.leaves.Leaf.{Leaf}
 use Rattle.blake2bp.specs.declared.params.Params.{Params}
 use Rattle.blake2bp.specs.declared.state.State.{State}
 use Rattle.blake2bp.proofs.Ranges.{in-range, ranged}
 use Rattle.blake2bp.proofs.States.{lawful}
-use Rattle.blake2bp.proofs.Turns.{words-on-leaf}
+use Rattle.leaves.proofs.Turns.{words-on-leaf}
 
 -- pieces that come to a state
 pub pieces-are : (s : State) (ps : List (List ℕ)) → foldl pushed s ps ≡ holding s (buffer.after machine (core s) ps)
@@ -93,7 +93,7 @@ module _ (p : Params) (whole : length (p .key) ≡ 64) (short : p .«key_length�
   pub front-short : length (front p) ≤ 512
   front-short = split (leb 1 (p .«key_length»)) length-front
     where
-      split : (b : Bool) → length (front p) ≡ cond b 512 0 → length (front p) ≤ 512
+      split : (b : Bool) → length (front p) ≡ keyRow b → length (front p) ≤ 512
       split true e = omega arith
       split false e = omega arith
 

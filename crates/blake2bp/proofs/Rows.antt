@@ -10,15 +10,20 @@ use lib.Dec.{leb}
 use lib.ListN.{length, length-append}
 use Rattle.laws.specs.Buffer.{joined}
 use Rattle.numbers.specs.Numbers.{accepted, total-over, limit}
-use Rattle.blake2b.specs.Row.{Call, update, digest, count, Answer, taken, digested}
+use Rattle.numbers.specs.Row.{Call, Taker, answers, digested, counted}
+use Rattle.numbers.proofs.Alike.{Alike, alike-answers}
+use Rattle.hash.specs.Hash.{digestOf}
+use Rattle.hash.specs.declared.HashAnswer.{HashAnswer}
 use Rattle.hash.proofs.Digests.{digest-of-hash}
 use Rattle.blake2bp.specs.Params.{keyOf}
-use Rattle.blake2bp.specs.State.{pushed, total, keyBytes, fresh, reached, updated}
+use Rattle.blake2bp.specs.State.{pushed, total, keyRow, keyBytes, fresh, reached, updated}
 use Rattle.blake2bp.specs.State as state
-use Rattle.blake2bp.specs.Row.{stateSays, stateAnswers, rowTotal, rowSays, rowAnswers}
+use Rattle.blake2bp.specs.Row.{stateTaker, rowTaker}
 use Rattle.blake2bp.specs.declared.params.Params.{Params}
 use Rattle.blake2bp.specs.declared.state.State.{State}
-use Rattle.blake2bp.proofs.AnyCuts.{total-reached, range-reached, digest-in-any-cuts, count-in-any-cuts}
+use Rattle.blake2bp.specs.declared.state.StateAnswer.{StateAnswer}
+use Rattle.blake2bp.specs.declared.state.CountAnswer.{CountAnswer}
+use Rattle.blake2bp.proofs.AnyCuts.{total-reached, range-reached, digest-reached, count-reached}
 use Rattle.blake2bp.proofs.Cleaned.{Good}
 use Rattle.blake2bp.proofs.Pieces.{length-key}
 use Rattle.blake2bp.proofs.Setters.{key-short}
@@ -33,73 +38,68 @@ module _ (p : Params) (good : Good p) where
   short : p .«key_length» ≤ 64
   short = key-short p (good .ranged)
 
-  -- key block bytes and message bytes
-  row-total : (bytes : List ℕ) → keyBytes p + length bytes ≡ rowTotal (p .«hash_length») (keyOf p) bytes
-  row-total bytes =
-      ap (λ (n : ℕ). cond (leb 1 n) 512 0 + length bytes) (sym (length-key p (good .whole) short))
+  abbrev rowed : Taker (List ℕ)
+  rowed = rowTaker (p .«hash_length») (keyOf p)
+
+  -- whether the row takes more
+  abbrev test : List ℕ → List ℕ → Bool
+  test bytes a = leb (keyRow (leb 1 (length (keyOf p))) + length bytes + length a) limit
+
+  -- the key is as long as it says
+  same-row : (bytes : List ℕ) → keyBytes p + length bytes ≡ keyRow (leb 1 (length (keyOf p))) + length bytes
+  same-row bytes = ap (λ (n : ℕ). keyRow (leb 1 n) + length bytes) (sym (length-key p (good .whole) short))
 
   module _ (ps : List (List ℕ)) (within : keyBytes p + length (joined ps) ≤ limit) where
-    tested : (a : List ℕ) → leb (total (reached p ps) + length a) limit ≡ leb (rowTotal (p .«hash_length») (keyOf p) (joined ps) + length a) limit
-    tested a = ap (λ (n : ℕ). leb (n + length a) limit) (total-reached p good ps within ∙ row-total (joined ps))
+    tested : (a : List ℕ) → leb (total (reached p ps) + length a) limit ≡ test (joined ps) a
+    tested a = ap (λ (n : ℕ). leb (n + length a) limit) (total-reached p good ps within ∙ same-row (joined ps))
 
-    updated-accepted : (a : List ℕ) → leb (rowTotal (p .«hash_length») (keyOf p) (joined ps) + length a) limit ≡ true
-        → updated (reached p ps) a ≡ record { number = accepted; state = reached p (ps ++ (a ∷ [])) }
+    -- an update, by the row's test
+    took : (a : List ℕ) (b : Bool) → test (joined ps) a ≡ b
+        → updated (reached p ps) a ≡ record { number = cond b accepted total-over; state = reached p (cond b (ps ++ (a ∷ [])) ps) }
     unfolding updated
-    updated-accepted a e = rw (range-reached p good ps within, tested a ∙ e, foldl-append pushed (fresh p) ps (a ∷ []))
+    took a true e = rw (range-reached p good ps within, tested a ∙ e, foldl-append pushed (fresh p) ps (a ∷ []))
+    took a false e = rw (range-reached p good ps within, tested a ∙ e)
 
-    updated-refused : (a : List ℕ) → leb (rowTotal (p .«hash_length») (keyOf p) (joined ps) + length a) limit ≡ false
-        → updated (reached p ps) a ≡ record { number = total-over; state = reached p ps }
-    unfolding updated
-    updated-refused a e = rw (range-reached p good ps within, tested a ∙ e)
+    fits : (a : List ℕ) (b : Bool) → test (joined ps) a ≡ b → keyBytes p + length (joined (cond b (ps ++ (a ∷ [])) ps)) ≤ limit
+    fits a true e =
+        let n = ap length (joined-more ps a) ∙ length-append (joined ps) a in
+        let t = same-row (joined ps) in
+        omega (arith, leb-true (keyRow (leb 1 (length (keyOf p))) + length (joined ps) + length a) limit e)
+    fits a false e = within
 
-    says-digest : stateSays (reached p ps) digest ≡ rowSays (p .«hash_length») (keyOf p) (joined ps) digest
-    says-digest = rw (digest-in-any-cuts p good ps within) (ap (digested accepted) (digest-of-hash (state.digest p (joined ps))))
+    bytes-after : (a : List ℕ) (b : Bool) → joined (cond b (ps ++ (a ∷ [])) ps) ≡ cond b (joined ps ++ a) (joined ps)
+    bytes-after a true = joined-more ps a
+    bytes-after a false = refl
 
-    says-count : stateSays (reached p ps) count ≡ rowSays (p .«hash_length») (keyOf p) (joined ps) count
-    says-count = rw (count-in-any-cuts p good ps within)
+  -- a state that took these bytes, in some cuts
+  record Took (s : State) (bytes : List ℕ) : Type 0 where
+    pieces : List (List ℕ)
+    is : s ≡ reached p pieces
+    made : joined pieces ≡ bytes
+    within : keyBytes p + length (joined pieces) ≤ limit
 
-  -- the answers from some pieces on agree
-  Agree : List Call → Type 0
-  Agree cs = (ps : List (List ℕ)) → keyBytes p + length (joined ps) ≤ limit → stateAnswers (reached p ps) cs ≡ rowAnswers (p .«hash_length») (keyOf p) (joined ps) cs
+  stays-alike : Alike stateTaker rowed Took
+  stays-alike = record {
+    number = λ s bytes a e. ap (λ (t : State). updated t a .number) (e .is) ∙ ap (λ (u : StateAnswer). u .number) (took (e .pieces) (e .within) a _ refl) ∙ ap (λ (m : List ℕ). rowed .number m a) (e .made);
+    next = λ s bytes a e. record {
+      pieces = cond (test (joined (e .pieces)) a) (e .pieces ++ (a ∷ [])) (e .pieces);
+      is = ap (λ (t : State). updated t a .state) (e .is) ∙ ap (λ (u : StateAnswer). u .state) (took (e .pieces) (e .within) a _ refl);
+      made = bytes-after (e .pieces) (e .within) a (test (joined (e .pieces)) a) ∙ ap (λ (m : List ℕ). rowed .next m a) (e .made);
+      within = fits (e .pieces) (e .within) a _ refl;
+    };
+    digested = λ s bytes e. ap (stateTaker .digested) (e .is)
+        ∙ ap (λ (h : HashAnswer). digested (h .number) (digestOf (h .hash))) (digest-reached p good (e .pieces) (e .within))
+        ∙ ap (digested accepted) (digest-of-hash (state.digest p (joined (e .pieces))) ∙ ap (state.digest p) (e .made));
+    counted = λ s bytes e. ap (stateTaker .counted) (e .is)
+        ∙ ap (λ (n : CountAnswer). counted (n .number) (n .count .0)) (count-reached p good (e .pieces) (e .within))
+        ∙ ap (λ (m : List ℕ). counted accepted (length m)) (e .made);
+  }
 
-  -- an update whose test and answer are known, and the answers that follow it
-  turn : (a : List ℕ) (ps : List (List ℕ)) (cs : List Call) (b : Bool) (t : State) → leb (rowTotal (p .«hash_length») (keyOf p) (joined ps) + length a) limit ≡ b
-      → updated (reached p ps) a ≡ record { number = cond b accepted total-over; state = t }
-      → stateAnswers t cs ≡ rowAnswers (p .«hash_length») (keyOf p) (cond b (joined ps ++ a) (joined ps)) cs
-      → stateAnswers (reached p ps) (update a ∷ cs) ≡ rowAnswers (p .«hash_length») (keyOf p) (joined ps) (update a ∷ cs)
-  unfolding stateAnswers rowAnswers
-  turn a ps cs b t e f rest =
-      (λ i. taken (f i .number) ∷ stateAnswers (f i .state) cs)
-      ∙ ap (λ (l : List Answer). taken (cond b accepted total-over) ∷ l) rest
-      ∙ ap (λ (q : Bool). taken (cond q accepted total-over) ∷ rowAnswers (p .«hash_length») (keyOf p) (cond q (joined ps ++ a) (joined ps)) cs) (sym e)
-
-  after-update : (a : List ℕ) (cs : List Call) → Agree cs → Agree (update a ∷ cs)
-  unfolding Agree
-  after-update a cs rest ps within = split (leb (rowTotal (p .«hash_length») (keyOf p) (joined ps) + length a) limit) refl
+  -- whatever a fresh state is asked, it answers as the row of no bytes would
+  pub history : (cs : List Call) → answers stateTaker (fresh p) cs ≡ answers rowed [] cs
+  unfolding joined
+  history cs = alike-answers stateTaker rowed Took stays-alike cs (fresh p) [] (record { pieces = []; is = refl; made = refl; within = few (leb 1 (p .«key_length»)) })
     where
-      split : (b : Bool) → leb (rowTotal (p .«hash_length») (keyOf p) (joined ps) + length a) limit ≡ b
-          → stateAnswers (reached p ps) (update a ∷ cs) ≡ rowAnswers (p .«hash_length») (keyOf p) (joined ps) (update a ∷ cs)
-      split true e =
-          let more = ps ++ (a ∷ []) in
-          let j = joined-more ps a in
-          let n = ap length j ∙ length-append (joined ps) a in
-          let t = row-total (joined ps) in
-          let fits : keyBytes p + length (joined more) ≤ limit = omega (arith, leb-true (rowTotal (p .«hash_length») (keyOf p) (joined ps) + length a) limit e) in
-          turn a ps cs true (reached p more) e (updated-accepted ps within a e) (rest more fits ∙ ap (λ (l : List ℕ). rowAnswers (p .«hash_length») (keyOf p) l cs) j)
-      split false e = turn a ps cs false (reached p ps) e (updated-refused ps within a e) (rest ps within)
-
-  agree : (cs : List Call) → Agree cs
-  unfolding Agree stateAnswers rowAnswers
-  agree [] ps within = refl
-  agree (update a ∷ cs) ps within = after-update a cs (agree cs) ps within
-  agree (digest ∷ cs) ps within = λ i. says-digest ps within i ∷ agree cs ps within i
-  agree (count ∷ cs) ps within = λ i. says-count ps within i ∷ agree cs ps within i
-
-  -- THE history theorem of one state
-  pub history : (cs : List Call) → stateAnswers (fresh p) cs ≡ rowAnswers (p .«hash_length») (keyOf p) [] cs
-  unfolding Agree joined
-  history cs = agree cs [] (few (leb 1 (p .«key_length»)))
-    where
-      few : (b : Bool) → cond b 512 0 + 0 ≤ limit
+      few : (b : Bool) → keyRow b + 0 ≤ limit
       few true = omega arith
       few false = omega arith

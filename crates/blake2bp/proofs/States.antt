@@ -1,7 +1,7 @@
 -- The laws of states: those of the laws' machine of n leaves, at this record, and what each call answers, case by case.
 -- Assumes nothing.
 use mathlib.Core.Path.{_≡_, refl, sym, ap, _∙_}
-use mathlib.Core.Bool.{Bool, true, false, cond, not}
+use mathlib.Core.Bool.{Bool, true, false, not}
 use mathlib.Core.List.{List, [], _++_, map}
 use Prim.Native.Nat.{ℕ, _+_, _-_, _*_, _<_, _≤_}
 use native.Mathlib.Omega.{arith}
@@ -23,10 +23,10 @@ use Rattle.numbers.specs.Numbers.{accepted, total-over, bad-record, limit}
 use Rattle.hash.specs.Hash.{isDigestLength, noHash, madeFrom}
 use Rattle.hash.specs.declared.HashAnswer.{HashAnswer}
 use Rattle.blake2b.proofs.States.{made-hash}
-use Rattle.blake2bp.specs.Leaves.{wordsOf, onLeaf}
+use Rattle.leaves.specs.Leaves.{wordsOf, onLeaf}
 use Rattle.blake2bp.specs.Params.{inRange}
-use Rattle.blake2bp.specs.State.{core, holding, machine, pending, moved, pushed, total, stateInRange, zeroState, fresh, opened, updated, finalized, counted, leafCounted, bufferedIn}
-use Rattle.blake2bp.specs.declared.leaves.Leaf.{Leaf}
+use Rattle.blake2bp.specs.State.{core, holding, machine, pending, moved, pushed, total, keyRow, stateInRange, zeroState, fresh, opened, updated, finalized, counted, leafCounted, bufferedIn}
+use Rattle.leaves.specs.declared.leaves.Leaf.{Leaf}
 use Rattle.blake2bp.specs.declared.params.Params.{Params}
 use Rattle.blake2bp.specs.declared.state.State.{State}
 
@@ -95,7 +95,7 @@ module _ (s : State) {good : Bool} (e : good ≡ stateInRange s) where
   unfolding counted
   counted-bad h = rw (sym e ∙ not-true good h)
 
-  pub counted-all : (n : ℕ) → not good ≡ false → n ≡ total s - cond (s .«is_keyed») 512 0 → record { number = accepted; count = record { 0 = n } } ≡ counted s
+  pub counted-all : (n : ℕ) → not good ≡ false → n ≡ total s - keyRow (s .«is_keyed») → record { number = accepted; count = record { 0 = n } } ≡ counted s
   unfolding counted
   counted-all n h g = rw (g, sym e ∙ not-false good h)
 

@@ -1,4 +1,3 @@
-pub mod Leaves
 pub mod Params
 pub mod State
 pub mod Row

@@ -16,9 +16,9 @@ use Rattle.laws.specs.Leaves.{rooted, keyedRow, leafStarts, rootStart}
 use Rattle.numbers.specs.Numbers.{accepted, total-over, bad-record, limit}
 use Rattle.hash.specs.Hash.{isDigestLength, hashOf, noHash}
 use Rattle.hash.specs.declared.HashAnswer.{HashAnswer}
-use Rattle.blake2bp.specs.Leaves.{leafOf, wordsOf, onLeaf}
+use Rattle.leaves.specs.Leaves.{leafOf, wordsOf, onLeaf}
 use Rattle.blake2bp.specs.Params.{inRange, keyOf}
-use Rattle.blake2bp.specs.declared.leaves.Leaf.{Leaf}
+use Rattle.leaves.specs.declared.leaves.Leaf.{Leaf}
 use Rattle.blake2bp.specs.declared.params.Params.{Params}
 use Rattle.blake2bp.specs.declared.state.State.{State}
 use Rattle.blake2bp.specs.declared.state.StateAnswer.{StateAnswer}
@@ -64,10 +64,14 @@ totalOf count buflen = 4 * count + buflen
 abbrev pub total : State → ℕ
 total s = totalOf (s .count .0) (s .«buf_len»)
 
+-- what a key adds to the total: a block for each leaf
+abbrev pub keyRow : Bool → ℕ
+keyRow keyed = cond keyed 512 0
+
 -- the ranges of refusal 14
 unfoldable pub rangeOf : ℕ → ℕ → ℕ → Bool → Bool
 rangeOf hash-length buflen count keyed =
-    isDigestLength hash-length && (leb buflen 1024 && (leb (totalOf count buflen) limit && leb (cond keyed 512 0) (totalOf count buflen)))
+    isDigestLength hash-length && (leb buflen 1024 && (leb (totalOf count buflen) limit && leb (keyRow keyed) (totalOf count buflen)))
 
 abbrev pub stateInRange : State → Bool
 stateInRange s = rangeOf (s .«hash_length») (s .«buf_len») (s .count .0) (s .«is_keyed»)
@@ -87,9 +91,9 @@ zeroState = record {
 abbrev pub front : Params → List ℕ
 front p = keyedRow BLAKE2b 4 (keyOf p) []
 
--- and what it adds to the total
+-- and its bytes
 abbrev pub keyBytes : Params → ℕ
-keyBytes p = cond (leb 1 (p .«key_length»)) 512 0
+keyBytes p = keyRow (leb 1 (p .«key_length»))
 
 -- the state of no message bytes: the row of key blocks waits where there is a key
 abbrev pub fresh : Params → State
@@ -127,7 +131,7 @@ finalized s = cond (stateInRange s) (record { number = accepted; hash = hashOf (
 -- the message bytes that came: four times what each leaf took, and what waits, without the row of key blocks
 unfoldable pub counted : State → CountAnswer
 counted s =
-    cond (stateInRange s) (record { number = accepted; count = record { 0 = total s - cond (s .«is_keyed») 512 0 } }) (record { number = bad-record; count = record { 0 = 0 } })
+    cond (stateInRange s) (record { number = accepted; count = record { 0 = total s - keyRow (s .«is_keyed») } }) (record { number = bad-record; count = record { 0 = 0 } })
 
 -- what each leaf took
 unfoldable pub leafCounted : State → LeafCountAnswer

@@ -1,13 +1,10 @@
 // Module 5: BLAKE2bp, four leaves and a root over them, one-shot or piece by piece. Its digests are BLAKE2b's.
 // Public: every call is total, and its promise settles its whole answer.
-mod counts;
-mod leaves;
 mod params;
 mod state;
-mod store;
 
-pub use counts::LeafCount;
-pub use counts::MessageCount;
+pub use leaves::LeafCount;
+pub use leaves::MessageCount;
 pub use params::Params;
 pub use params::ParamsAnswer;
 pub use state::BufferedAnswer;

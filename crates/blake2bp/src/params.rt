@@ -1,26 +1,19 @@
-// The parameters: a digest length and a key, and the words that the leaves and the root start from.
+// The parameters: a digest length and a key.
 // A setter overwrites its whole field, so that nothing of an older value stays.
-use crate::leaves::Leaf;
-use crate::store::store;
+use hash::is_digest_length;
+use leaves::store;
 use numbers::ACCEPTED;
 use numbers::DIGEST_LENGTH;
 use numbers::KEY_LENGTH;
 use numbers::RECORD;
-use portable::parameter_words;
 ghost use mathlib.Core.Path.{_≡_};
-ghost use mathlib.Core.List.{map};
 ghost use Prim.Native.Nat.{_≤_};
 ghost use lib.Dec.{leb};
 ghost use lib.ListN.{length};
 ghost use Rattle.definitions.specs.Words.{pad};
-ghost use Rattle.definitions.specs.Family.{BLAKE2b};
-ghost use Rattle.definitions.specs.Hash.{start};
-ghost use Rattle.definitions.specs.Tree.{parameters};
 ghost use Rattle.laws.specs.Chain.{zeros};
-ghost use Rattle.laws.specs.Leaves.{leafStarts, rootStart};
 ghost use Rattle.numbers.specs.Numbers.{digest-length, key-length};
 ghost use Rattle.hash.specs.Hash.{isDigestLength};
-ghost use Rattle.blake2bp.specs.Leaves.{leafOf};
 ghost use Rattle.blake2bp.specs.Params.{defaults, inRange, answered, withHashLength, withKey};
 
 pub struct Params {
@@ -33,13 +26,6 @@ pub struct Params {
 pub struct ParamsAnswer {
     pub number: u8,
     pub params: Params,
-}
-
-// Whether a digest may have n bytes.
-pub(crate) fn is_digest_length(n: usize) -> bool
-    ensures { λ r. ⌜ r ≡ isDigestLength n ⌝ }
-{
-    1 <= n && n <= Params::OUTBYTES
 }
 
 fn zero_key() -> [u8; 64]
@@ -64,32 +50,14 @@ fn answer(number: u8, params: Params) -> ParamsAnswer
     ParamsAnswer { number, params }
 }
 
-// The words of a node. All have the asked lengths, fanout 4, depth 2, leaf length 0, and the inner length of a whole state.
-fn node_words(hash_length: u8, key_length: u8, offset: u64, depth: u8) -> [u64; 8]
-    ensures { λ r. ⌜ r ≡ start BLAKE2b (parameters BLAKE2b 4 «hash_length» «key_length» offset depth) ⌝ }
-{
-    parameter_words(
-        hash_length,
-        key_length,
-        4,
-        2,
-        0,
-        offset,
-        depth,
-        64,
-        [0; 16],
-        [0; 16],
-    )
-}
-
 impl Params {
     pub const OUTBYTES: usize = 64;
 
     pub const KEYBYTES: usize = 64;
 
-    pub const BLOCKBYTES: usize = 128;
+    pub const BLOCKBYTES: usize = leaves::BLOCKBYTES;
 
-    pub const DEGREE: usize = 4;
+    pub const DEGREE: usize = leaves::DEGREE;
 
     pub fn new() -> Self
         ensures { λ r. ⌜ r ≡ defaults ⌝ }
@@ -141,28 +109,5 @@ impl Params {
         p.key_length = key.len() as u8;
         p.key = field;
         answer(ACCEPTED, p)
-    }
-
-    // The words that the leaves start from: the leaf i has the offset i.
-    pub(crate) fn leaf_words(self) -> [Leaf; 4]
-        ensures { λ r. ⌜ r ≡ map leafOf (leafStarts BLAKE2b 4 (self .«hash_length») (self .«key_length»)) ⌝ }
-    {
-        let zero = Leaf { words: [0; 8] };
-        let mut leaves = [zero; 4];
-        let mut i: usize = 0;
-        while i < 4 {
-            let words = node_words(self.hash_length, self.key_length, i as u64, 0);
-            let leaf = Leaf { words };
-            leaves[i] = leaf;
-            i += 1;
-        }
-        leaves
-    }
-
-    // And the root.
-    pub(crate) fn root_words(self) -> [u64; 8]
-        ensures { λ r. ⌜ r ≡ rootStart BLAKE2b 4 (self .«hash_length») (self .«key_length») ⌝ }
-    {
-        node_words(self.hash_length, self.key_length, 0, 1)
     }
 }

@@ -1,17 +1,21 @@
 // The state of a hash that takes its message piece by piece, and the hash of a whole message.
 // The buffer holds two rows of blocks: a row goes once each leaf is known to get more.
-use crate::counts::LeafCount;
-use crate::counts::MessageCount;
-use crate::leaves::Leaf;
-use crate::leaves::compress_to_leaves;
-use crate::leaves::finalize_root_words;
-use crate::leaves::finish_leaves;
 use crate::params::Params;
-use crate::params::is_digest_length;
-use crate::store::store;
-use blake2b::Hash;
-use blake2b::HashAnswer;
+use guts::offset_slice;
 use guts::padded;
+use hash::Hash;
+use hash::HashAnswer;
+use hash::is_digest_length;
+use leaves::DEGREE;
+use leaves::Leaf;
+use leaves::LeafCount;
+use leaves::MessageCount;
+use leaves::compress_to_leaves;
+use leaves::finalize_root_words;
+use leaves::finish_leaves;
+use leaves::leaf_words;
+use leaves::root_words;
+use leaves::store;
 use numbers::ACCEPTED;
 use numbers::LIMIT;
 use numbers::RECORD;
@@ -19,19 +23,19 @@ use numbers::TOTAL;
 ghost use mathlib.Core.Path.{_≡_};
 ghost use mathlib.Core.List.{_++_};
 ghost use Prim.Native.Nat.{_+_, _*_, _^_, _<_, _≤_};
-ghost use lib.ListN.{length, drop};
+ghost use lib.ListN.{length};
 ghost use Rattle.definitions.specs.Words.{pad};
 ghost use Rattle.laws.specs.Chain.{zeros, spare};
 ghost use Rattle.laws.specs.Leaves.{rowOf};
-ghost use Rattle.hash.specs.Hash.{hashOf, noHash};
+ghost use Rattle.hash.specs.Hash.{hashOf};
 ghost use Rattle.blake2bp.specs.Params.{defaults};
 ghost use Rattle.blake2bp.specs.State.{pending, moved, rangeOf, stateInRange, zeroState, fresh, opened, updated, finalized, counted, leafCounted, bufferedIn, digest, hashed};
 
 pub struct State {
-    pub(crate) leaves: [Leaf; 4],
+    pub(crate) leaves: [Leaf; DEGREE],
     pub(crate) root_words: [u64; 8],
     // Zeros behind the bytes that wait.
-    pub(crate) buf: [u8; 1024],
+    pub(crate) buf: [u8; BUFFER],
     pub(crate) buf_len: usize,
     pub(crate) count: LeafCount,
     pub(crate) hash_length: u8,
@@ -65,9 +69,12 @@ const BUFFER: usize = 1024;
 
 const NEED: usize = 384;
 
+// What a key adds to the bytes of a total: a block for each leaf.
+const KEY_ROW: u64 = 512;
+
 // Whether a record with these fields keeps its stated ranges.
-fn range_of(hash_length: u8, buf_len: usize, count: u64, is_keyed: bool) -> bool
-    ensures { λ r. ⌜ r ≡ rangeOf «hash_length» «buf_len» count «is_keyed» ⌝ }
+fn range_of(hash_length: u8, buf_len: usize, count: LeafCount, is_keyed: bool) -> bool
+    ensures { λ r. ⌜ r ≡ rangeOf «hash_length» «buf_len» (count .0) «is_keyed» ⌝ }
 {
     if !is_digest_length(hash_length as usize) {
         return false;
@@ -75,33 +82,33 @@ fn range_of(hash_length: u8, buf_len: usize, count: u64, is_keyed: bool) -> bool
     if buf_len > BUFFER {
         return false;
     }
-    if count > LIMIT / 4 {
+    if count.0 > LIMIT / 4 {
         return false;
     }
-    let gone = 4 * count;
+    let gone = 4 * count.0;
     let held = buf_len as u64;
     if held > LIMIT - gone {
         return false;
     }
     if is_keyed {
-        return 512 <= gone + held;
+        return KEY_ROW <= gone + held;
     }
     true
 }
 
-fn zero_buffer() -> [u8; 1024]
+fn zero_buffer() -> [u8; BUFFER]
     ensures { λ r. ⌜ r ≡ zeros 1024 ⌝ }
 {
-    [0; 1024]
+    [0; BUFFER]
 }
 
 // A buffer with a key block for each leaf.
-fn key_row(block: [u8; 128]) -> [u8; 1024]
+fn key_row(block: [u8; 128]) -> [u8; BUFFER]
     ensures { λ r. ⌜ r ≡ pad 1024 (rowOf 4 block) ⌝ }
 {
     let mut buf = zero_buffer();
     let mut i: usize = 0;
-    while i < 4 {
+    while i < DEGREE {
         store(&mut buf, i * Params::BLOCKBYTES, &block);
         i += 1;
     }
@@ -116,14 +123,6 @@ fn spare_rows(n: usize) -> usize
         return 0;
     }
     (n - NEED - 1) / ROW
-}
-
-// The part of the input that is not yet taken, n bytes of it being.
-fn not_taken<'a>(input: &'a [u8], n: usize) -> &'a [u8]
-    requires { ⌜ n ≤ length (now input) ⌝ }
-    ensures { λ r. ⌜ now r ≡ drop n (now (input .entry)) ⌝ }
-{
-    &input[n..]
 }
 
 impl State {
@@ -142,7 +141,7 @@ impl State {
         let buf = zero_buffer();
         let count = LeafCount(0);
         State {
-            leaves: [leaf; 4],
+            leaves: [leaf; DEGREE],
             root_words: [0; 8],
             buf,
             buf_len: 0,
@@ -156,7 +155,7 @@ impl State {
     pub fn in_range(self) -> bool
         ensures { λ r. ⌜ r ≡ stateInRange self ⌝ }
     {
-        range_of(self.hash_length, self.buf_len, self.count.0, self.is_keyed)
+        range_of(self.hash_length, self.buf_len, self.count, self.is_keyed)
     }
 
     // The input fits the buffer.
@@ -200,9 +199,9 @@ impl State {
         let l = self.leaves;
         let b = self.buf;
         let c = self.count;
-        let leaves = compress_to_leaves(l, &b[0..512], c, 1);
+        let leaves = compress_to_leaves(l, &b[0..ROW], c, 1);
         let mut front = zero_buffer();
-        store(&mut front, 0, &b[512..1024]);
+        store(&mut front, 0, &b[ROW..BUFFER]);
         let count = LeafCount(c.0 + 128);
         let mut s = self;
         s.leaves = leaves;
@@ -240,7 +239,7 @@ impl State {
         let rows = spare_rows(input.len());
         let end = ROW * rows;
         let s = self.compress_rows(&input[0..end], rows);
-        s.fill_buf(not_taken(input, end))
+        s.fill_buf(offset_slice(input, end))
     }
 
     // The buffer holds some and has no room for the input: it is filled, rows of it go, and the rest follows.
@@ -253,17 +252,17 @@ impl State {
         let coming = input.len() - room;
         if coming > NEED {
             let s = full.compress_both();
-            return s.take_long(not_taken(input, room));
+            return s.take_long(offset_slice(input, room));
         }
         let s = full.compress_half();
-        s.fill_buf(not_taken(input, room))
+        s.fill_buf(offset_slice(input, room))
     }
 
     pub fn update(self, input: &[u8]) -> StateAnswer
         ensures { λ r. ⌜ r ≡ updated self (now (input .entry)) ⌝ }
     {
         let held = self.buf_len;
-        if !range_of(self.hash_length, held, self.count.0, self.is_keyed) {
+        if !range_of(self.hash_length, held, self.count, self.is_keyed) {
             return StateAnswer {
                 number: RECORD,
                 state: self,
@@ -303,8 +302,8 @@ impl State {
         ensures { λ r. ⌜ r ≡ finalized self ⌝ }
     {
         let held = self.buf_len;
-        if !range_of(self.hash_length, held, self.count.0, self.is_keyed) {
-            return refused(RECORD);
+        if !range_of(self.hash_length, held, self.count, self.is_keyed) {
+            return HashAnswer::refused(RECORD);
         }
         let l = self.leaves;
         let b = self.buf;
@@ -326,7 +325,7 @@ impl State {
         }
         let all = 4 * self.count.0 + self.buf_len as u64;
         if self.is_keyed {
-            let count = MessageCount(all - 512);
+            let count = MessageCount(all - KEY_ROW);
             return CountAnswer {
                 number: ACCEPTED,
                 count,
@@ -374,23 +373,14 @@ impl State {
     }
 }
 
-fn refused(number: u8) -> HashAnswer
-    ensures { λ r. ⌜ r ≡ noHash number ⌝ }
-{
-    HashAnswer {
-        number,
-        hash: Hash::zero(),
-    }
-}
-
 impl Params {
     // The state of no message bytes: a row of key blocks waits in the buffer where there is a key.
     pub(crate) fn with_params(self) -> State
         requires { ⌜ self .«key_length» ≤ 64 ⌝ }
         ensures { λ r. ⌜ r ≡ fresh self ⌝ }
     {
-        let leaves = self.leaf_words();
-        let root_words = self.root_words();
+        let leaves = leaf_words(self.hash_length, self.key_length);
+        let root = root_words(self.hash_length, self.key_length);
         let count = LeafCount(0);
         if self.key_length > 0 {
             let key = self.key;
@@ -398,7 +388,7 @@ impl Params {
             let buf = key_row(padded(&key[0..n]));
             return State {
                 leaves,
-                root_words,
+                root_words: root,
                 buf,
                 buf_len: ROW,
                 count,
@@ -409,7 +399,7 @@ impl Params {
         let buf = zero_buffer();
         State {
             leaves,
-            root_words,
+            root_words: root,
             buf,
             buf_len: 0,
             count,
@@ -440,21 +430,21 @@ impl Params {
         ensures { λ r. ⌜ r ≡ hashed self (now (input .entry)) ⌝ }
     {
         if !self.in_range() {
-            return refused(RECORD);
+            return HashAnswer::refused(RECORD);
         }
         if self.key_length > 0 {
             let taken = self.with_params().update(input);
             if taken.number != ACCEPTED {
-                return refused(TOTAL);
+                return HashAnswer::refused(TOTAL);
             }
             let state = taken.state;
             return state.finalize();
         }
-        let start = self.leaf_words();
-        let root_words = self.root_words();
+        let start = leaf_words(self.hash_length, self.key_length);
+        let root = root_words(self.hash_length, self.key_length);
         let none = LeafCount(0);
         let leaves = finish_leaves(start, input, none);
-        finalize_root_words(leaves, root_words, self.hash_length)
+        finalize_root_words(leaves, root, self.hash_length)
     }
 }
 

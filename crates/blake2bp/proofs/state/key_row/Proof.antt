@@ -9,7 +9,7 @@ use Rattle.definitions.specs.Words.{pad}
 use Rattle.laws.specs.Leaves.{rowOf}
 use Rattle.laws.proofs.Pastes.{pad-none, row-more}
 use Rattle.laws.proofs.Trees.{length-row}
-use Rattle.blake2bp.proofs.Turns.{filled-turn}
+use Rattle.leaves.proofs.Turns.{filled-turn}
 use Rattle.blake2bp.proofs.state.key_row.Statement.{statement}
 use Rattle.blake2bp.proofs.state.key_row.Tie as tie
 
@@ -22,33 +22,15 @@ abbrev μ-loop : tie.MeasureT-loop
 whole : (c : tie.Start Inv-loop μ-loop) → length (c .args .t1) ≡ 128
 whole c = search needs
 
-zero-buffer-requires : tie.Need-zero-buffer-requires Inv-loop μ-loop
-zero-buffer-requires c κs = search needs
-
 loop-holds : tie.Need-loop-holds Inv-loop μ-loop
 unfolding rowOf
 loop-holds c = (omega arith, search needs, c .zero-buffer .ensures ∙ sym (pad-none 1024))
-
-slice-aggregate-store : tie.Need-slice-aggregate-store Inv-loop μ-loop
-slice-aggregate-store c = search needs
-
-mul-store : tie.Need-mul-store Inv-loop μ-loop
-mul-store c = search needs
-
-slice-aggregate-store-2 : tie.Need-slice-aggregate-store-2 Inv-loop μ-loop
-slice-aggregate-store-2 c = search needs
 
 store-requires : tie.Need-store-requires Inv-loop μ-loop
 store-requires c κs =
     let l = c .before .before .before .loop in
     let w = whole (c .before .before .before .before .before) in
     omega (arith, l .inv .1)
-
-add-i : tie.Need-add-i Inv-loop μ-loop
-add-i c = search needs
-
-loop-less : tie.Need-loop-less Inv-loop μ-loop
-loop-less c = search needs
 
 loop-again : tie.Need-loop-again Inv-loop μ-loop
 loop-again c =
@@ -70,13 +52,13 @@ key-row-spec =
     (tie.spec
     Inv-loop
     μ-loop
-    zero-buffer-requires
+    (λ c κs. search needs)
     loop-holds
-    slice-aggregate-store
-    mul-store
-    slice-aggregate-store-2
+    (λ c. search needs)
+    (λ c. search needs)
+    (λ c. search needs)
     store-requires
-    add-i
-    loop-less
+    (λ c. search needs)
+    (λ c. search needs)
     loop-again
     returns)

@@ -1,11 +1,11 @@
 -- `blake2bp::state::State::count` meets its contract.
 -- Assumes nothing.
 use mathlib.Core.Path.{sym, ap, _∙_}
-use mathlib.Core.Bool.{Bool, cond}
+use mathlib.Core.Bool.{Bool}
 use Prim.Native.Nat.{_-_, _≤_}
 use native.Mathlib.Omega.{arith}
 use borrow.Author.Tests.{not-false}
-use Rattle.blake2bp.specs.State.{total}
+use Rattle.blake2bp.specs.State.{total, keyRow}
 use Rattle.blake2bp.proofs.Ranges.{InRange, in-range}
 use Rattle.blake2bp.proofs.States.{counted-bad, counted-all}
 use borrow.Author.Needs.{needs}
@@ -39,13 +39,13 @@ returns-2 : tie.Need-returns-2
 returns-2 c =
     let i = c .before .before in
     let s = i .before .before .args .self in
-    counted-all s (i .before .in-range .ensures) (total s - 512) (i .if1 .left) (ap (λ (k : Bool). total s - cond k 512 0) (sym (c .if2 .taken)))
+    counted-all s (i .before .in-range .ensures) (total s - 512) (i .if1 .left) (ap (λ (k : Bool). total s - keyRow k) (sym (c .if2 .taken)))
 
 returns-3 : tie.Need-returns-3
 returns-3 c =
     let i = c .before .before in
     let s = i .before .before .args .self in
-    counted-all s (i .before .in-range .ensures) (total s) (i .if1 .left) (omega arith ∙ ap (λ (k : Bool). total s - cond k 512 0) (sym (c .if2 .left)))
+    counted-all s (i .before .in-range .ensures) (total s) (i .if1 .left) (omega arith ∙ ap (λ (k : Bool). total s - keyRow k) (sym (c .if2 .left)))
 
 pub count-spec : {M : Type 1} → statement M
 count-spec = tie.close (tie.spec (λ c κs. search needs) returns mul-all add-all sub-t10 returns-2 returns-3)

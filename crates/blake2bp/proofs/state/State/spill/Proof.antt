@@ -61,7 +61,7 @@ take-long-requires c κs =
     let e = entry s in
     let h = gone-held store machine lawful (a .self) (a .input .now) (sound s) (e .more) (f .fill-buf .result) (filled f) (sized-full f) (b .result) 2 (b .ensures) in
     let k = gone-count store machine lawful (a .self) (a .input .now) (sound s) (e .more) (f .fill-buf .result) (filled f) (sized-full f) (b .result) 2 (b .ensures) in
-    let l = ap length (c .not-taken .ensures) ∙ length-drop (1024 - a .self .«buf_len») (a .input .now) in
+    let l = ap length (c .offset-slice .ensures) ∙ length-drop (1024 - a .self .«buf_len») (a .input .now) in
     (h, omega (arith, e .small, e .more, e .rest, e .held))
 
 returns : tie.Need-returns
@@ -76,7 +76,7 @@ returns c =
     let x = drop room (a .input .now) in
     let l = length-drop room (a .input .now) in
     spill-is store machine lawful (a .self) (a .input .now) (sound s) (e .more) (f .fill-buf .result) (filled f) (sized-full f) (b .result) 2 (b .ensures)
-    (c .take-long .result) (spare 512 384 (length x)) (rw (t .not-taken .ensures) at (c .take-long .ensures)) (omega arith)
+    (c .take-long .result) (spare 512 384 (length x)) (rw (t .offset-slice .ensures) at (c .take-long .ensures)) (omega arith)
     (spare-both 512 384 (omega arith) (omega arith) (a .self .«buf_len») (length (a .input .now)) (length x) (e .held) (e .rest) l (rw l (t .before .before .if1 .taken)))
 
 compress-half-requires : tie.Need-compress-half-requires
@@ -91,7 +91,7 @@ fill-buf-requires-2 c κs =
     let a = s .args in
     let e = entry s in
     let h = gone-held store machine lawful (a .self) (a .input .now) (sound s) (e .more) (f .fill-buf .result) (filled f) (sized-full f) (b .result) 1 (b .ensures) in
-    let l = ap length (c .not-taken2 .ensures) ∙ length-drop (1024 - a .self .«buf_len») (a .input .now) in
+    let l = ap length (c .offset-slice2 .ensures) ∙ length-drop (1024 - a .self .«buf_len») (a .input .now) in
     omega (arith, i .if1 .left)
 
 returns-2 : tie.Need-returns-2
@@ -106,7 +106,7 @@ returns-2 c =
     let n = length (a .input .now) in
     let left = n - (1024 - a .self .«buf_len») in
     spill-is store machine lawful (a .self) (a .input .now) (sound s) (e .more) (f .fill-buf .result) (filled f) (sized-full f) (b .result) 1 (b .ensures)
-    (c .fill-buf2 .result) 0 (rw (t .not-taken2 .ensures) at (c .fill-buf2 .ensures)) (omega arith)
+    (c .fill-buf2 .result) 0 (rw (t .offset-slice2 .ensures) at (c .fill-buf2 .ensures)) (omega arith)
     (spare-half 512 384 (omega arith) (omega arith) (a .self .«buf_len») n left (e .held) (e .rest) refl (omega (arith, e .more, e .held)) (i .if1 .left))
 
 pub spill-spec : {M : Type 1} → statement M

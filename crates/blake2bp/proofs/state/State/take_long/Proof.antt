@@ -29,9 +29,6 @@ compress-rows-requires c κs =
     let n = rows-fit (c .before) in
     (search needs, simp length-take (omega arith), simp length-take (omega arith))
 
-not-taken-requires : tie.Need-not-taken-requires
-not-taken-requires c κs = rows-fit (c .before .before) .0
-
 -- whole rows went, and nothing waits behind them
 gone : (c : tie.After-compress-rows) → c .compress-rows .result ≡ moved (c .before .before .before .before .args .self) (take (512 * c .before .before .spare-rows .result) (c .before .before .before .before .args .input .now)) (c .before .before .spare-rows .result)
 gone c = rw (sub-zero (512 * c .before .before .spare-rows .result)) at (c .compress-rows .ensures)
@@ -49,7 +46,7 @@ fill-buf-requires c κs =
     let q = c .before .before .before in
     let n = rows-fit q in
     let z = emptied (c .before) in
-    let l = ap length (c .not-taken .ensures) ∙ length-drop (512 * q .spare-rows .result) (q .before .before .args .input .now) in
+    let l = ap length (c .offset-slice .ensures) ∙ length-drop (512 * q .spare-rows .result) (q .before .before .args .input .now) in
     omega arith
 
 returns : tie.Need-returns
@@ -60,7 +57,7 @@ returns c =
     let n = rows-fit q in
     rw (← q .spare-rows .ensures)
     (long-made store machine lawful (a .self) (t .before .compress-rows .result) (c .fill-buf .result) (a .input .now) (q .spare-rows .result) (512 * q .spare-rows .result) refl (n .0) (q .before .before .pre .0) (gone (t .before))
-    (rw (t .not-taken .ensures) at (c .fill-buf .ensures)))
+    (rw (t .offset-slice .ensures) at (c .fill-buf .ensures)))
 
 pub take-long-spec : {M : Type 1} → statement M
 take-long-spec =
@@ -72,6 +69,6 @@ take-long-spec =
     (λ c. search needs)
     part-compress-rows-end
     compress-rows-requires
-    not-taken-requires
+    (λ c κs. search needs)
     fill-buf-requires
     returns)

@@ -1,0 +1,27 @@
+-- `leaves::leaves::finalize_root_words` meets its contract.
+-- Assumes nothing.
+use mathlib.Core.Path.{ap, _∙_}
+use mathlib.Core.Bool.{true}
+use mathlib.Core.List.{List}
+use Prim.Native.Nat.{ℕ}
+use Rattle.definitions.specs.Family.{BLAKE2b}
+use Rattle.definitions.specs.Hash.{stateBytes}
+use Rattle.laws.specs.Blocks.{throughBlocks}
+use Rattle.laws.specs.Leaves.{rooted}
+use Rattle.hash.specs.Hash.{madeFrom}
+use Rattle.leaves.proofs.Turns.{flat-words}
+use borrow.Author.Needs.{needs}
+use Rattle.leaves.proofs.leaves.finalize_root_words.Statement.{statement}
+use Rattle.leaves.proofs.leaves.finalize_root_words.Tie as tie
+
+returns : tie.Need-returns
+unfolding rooted
+returns c =
+    let run = c .before .before in
+    let l = run .before .before in
+    let a = l .before .args in
+    c .from-words .ensures
+    ∙ ap (λ (w : List ℕ). madeFrom (stateBytes BLAKE2b w) (a .hash-length)) (run .compress1-loop .ensures ∙ ap (throughBlocks BLAKE2b 128 (a .root-words) 0 true true) (l .leaf-bytes .ensures ∙ flat-words (a .leaves)))
+
+pub finalize-root-words-spec : {M : Type 1} → statement M
+finalize-root-words-spec = tie.close (tie.spec (λ c κs. search needs) (λ c. search needs) (λ c κs. search needs) (λ c κs. search needs) returns)

@@ -1,0 +1,13 @@
+-- `leaves::leaves::zero_states` meets its contract.
+-- Assumes nothing.
+use mathlib.Core.Path.{refl}
+use Rattle.laws.specs.Chain.{zeros}
+use Rattle.leaves.proofs.leaves.zero_states.Statement.{statement}
+use Rattle.leaves.proofs.leaves.zero_states.Tie as tie
+
+returns : tie.Need-returns
+unfolding zeros
+returns c = refl
+
+pub zero-states-spec : {M : Type 1} → statement M
+zero-states-spec = tie.close (tie.spec returns)

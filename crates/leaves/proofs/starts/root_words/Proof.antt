@@ -1,0 +1,13 @@
+-- `leaves::starts::root_words` meets its contract.
+-- Assumes nothing.
+use Rattle.laws.specs.Leaves.{rootStart}
+use borrow.Author.Needs.{needs}
+use Rattle.leaves.proofs.starts.root_words.Statement.{statement}
+use Rattle.leaves.proofs.starts.root_words.Tie as tie
+
+returns : tie.Need-returns
+unfolding rootStart
+returns c = c .node-words .ensures
+
+pub root-words-spec : {M : Type 1} → statement M
+root-words-spec = tie.close (tie.spec (λ c κs. search needs) returns)

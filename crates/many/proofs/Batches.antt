@@ -14,7 +14,7 @@ use lib.Seq.{slice, slice-cons, slice-empty, getD-take}
 use Rattle.numbers.specs.Numbers.{accepted, batch-long}
 use Rattle.many.specs.Job.{runOver, jobRefusal}
 use Rattle.many.specs.Batch.{firstBad, settled, jobsRun}
-use Rattle.many.specs.declared.job.HashManyJob.{HashManyJob}
+use Rattle.many.specs.declared.placed.HashManyJob.{HashManyJob}
 use Rattle.many.specs.declared.batch.FirstBad.{FirstBad}
 use Rattle.many.proofs.Mapped.{mapped, behind, one-more}
 

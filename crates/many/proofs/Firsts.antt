@@ -12,7 +12,7 @@ use lib.ListN.{length, getD, take}
 use Rattle.numbers.specs.Numbers.{accepted}
 use Rattle.many.specs.Job.{jobRefusal}
 use Rattle.many.specs.Batch.{firstBad, jobsRun}
-use Rattle.many.specs.declared.job.HashManyJob.{HashManyJob}
+use Rattle.many.specs.declared.placed.HashManyJob.{HashManyJob}
 use Rattle.many.specs.declared.batch.FirstBad.{FirstBad}
 use Rattle.many.specs.declared.batch.JobsAnswer.{JobsAnswer}
 use Rattle.many.proofs.Batches.{first-here, first-later, batch-settled}

@@ -4,5 +4,4 @@ pub mod Jobs
 pub mod Mapped
 pub mod Outcomes
 pub mod Places
-pub mod Runs
 pub mod Unique

@@ -10,15 +10,18 @@ use lib.Dec.{leb, eqb}
 use lib.ListN.{length, getD, take, length-take}
 use lib.Seq.{getD-take}
 use Rattle.numbers.specs.Numbers.{accepted, batch-long}
-use Rattle.many.specs.Job.{runOver, jobRefusal}
+use Rattle.job.proofs.Runs.{run-finishes, run-keeps-range}
+use Rattle.many.specs.Job.{inputOf, runOver, jobRefusal}
 use Rattle.many.specs.Batch.{firstBad, jobsRun}
-use Rattle.many.specs.declared.job.HashManyJob.{HashManyJob}
+use Rattle.many.specs.declared.placed.HashManyJob.{HashManyJob}
 use Rattle.many.specs.declared.batch.FirstBad.{FirstBad}
 use Rattle.many.specs.declared.batch.JobsAnswer.{JobsAnswer}
 use Rattle.many.proofs.Mapped.{mapped, at-place, behind, unmoved, length-mapped, mapped-again}
-use Rattle.many.proofs.Jobs.{run-finished, accepted-range}
+use Rattle.many.proofs.Jobs.{accepted-range, finished-accepted, over-finished}
 use Rattle.many.proofs.Batches.{used-accepted, none-bad, batch-refused, batch-bad, batch-run}
-use Rattle.many.proofs.Runs.{run-finishes, run-keeps-range, run-again, finished-accepted}
+
+pub over-finishes : (d : List ℕ) (j : HashManyJob) → runOver d j .work .finished ≡ true
+over-finishes d j = run-finishes (inputOf d j) (j .work)
 
 -- what an accepted batch means: no more are used than may be, each of them is good, and each was run at its place
 pub record Ran (most : ℕ) (jobs : List HashManyJob) (used : ℕ) (d : List ℕ) (a : JobsAnswer) : Type 0 where
@@ -54,9 +57,9 @@ module _ (most : ℕ) (jobs : List HashManyJob) (used : ℕ) (d : List ℕ) wher
   behind-unchanged i z h = by-outcome (λ a. getD (a .jobs) i z ≡ getD jobs i z) (λ few good. behind (runOver d) used jobs i z h) (λ n k bad. refl)
 
   -- and so is a finished one, at any place
-  pub finished-unchanged : (i : ℕ) (z : HashManyJob) → getD jobs i z .finished ≡ true → getD (jobsRun most jobs used d .jobs) i z ≡ getD jobs i z
+  pub finished-unchanged : (i : ℕ) (z : HashManyJob) → getD jobs i z .work .finished ≡ true → getD (jobsRun most jobs used d .jobs) i z ≡ getD jobs i z
   finished-unchanged i z h =
-      by-outcome (λ a. getD (a .jobs) i z ≡ getD jobs i z) (λ few good. unmoved (runOver d) used jobs i z (sym (run-finished d (getD jobs i z) h))) (λ n k bad. refl)
+      by-outcome (λ a. getD (a .jobs) i z ≡ getD jobs i z) (λ few good. unmoved (runOver d) used jobs i z (sym (over-finished d (getD jobs i z) h))) (λ n k bad. refl)
 
   pub accepted-means : jobsRun most jobs used d .number ≡ accepted → Ran most jobs used d (jobsRun most jobs used d)
   accepted-means = by-outcome (λ a. a .number ≡ accepted → Ran most jobs used d a) (λ few good e. record { few = few; good = good; is = refl }) (λ n i bad e. absurd (bad e))
@@ -85,7 +88,7 @@ pub stays : (most : ℕ) (jobs : List HashManyJob) (used : ℕ) (d : List ℕ) �
     → (most′ used′ : ℕ) (d′ : List ℕ) → getD (jobsRun most′ (jobsRun most jobs used d .jobs) used′ d′ .jobs) i z ≡ getD (jobsRun most jobs used d .jobs) i z
 stays most jobs used d ok i z h g most′ used′ d′ =
     finished-unchanged most′ (jobsRun most jobs used d .jobs) used′ d′ i z
-    (ap (λ (j : HashManyJob). j .finished) (own-place most jobs used d ok i z h g) ∙ run-finishes d (getD jobs i z))
+    (ap (λ (j : HashManyJob). j .work .finished) (own-place most jobs used d ok i z h g) ∙ over-finishes d (getD jobs i z))
 
 -- running twice has no effect: the jobs of an accepted batch are accepted again, over any data, and stay as they are
 module _ (most : ℕ) (jobs : List HashManyJob) (used : ℕ) (d : List ℕ) (ok : jobsRun most jobs used d .number ≡ accepted) (e : List ℕ) where
@@ -94,11 +97,11 @@ module _ (most : ℕ) (jobs : List HashManyJob) (used : ℕ) (d : List ℕ) (ok 
       let low : i < length jobs = rw length-mapped at g in
       let j = getD jobs i z in
       rw (at-place (runOver d) used jobs i z h low)
-      (finished-accepted (length e) (runOver d j) (run-keeps-range d j ∙ accepted-range (length d) j (own-accepted most jobs used d ok i z h low)) (run-finishes d j))
+      (finished-accepted (length e) (runOver d j) (run-keeps-range (inputOf d j) (j .work) (j .length) ∙ accepted-range (length d) j (own-accepted most jobs used d ok i z h low)) (over-finishes d j))
 
   pub twice : jobsRun most (jobsRun most jobs used d .jobs) used e ≡ record { number = accepted; index = 0; jobs = jobsRun most jobs used d .jobs }
   twice =
       let r = accepted-means most jobs used d ok in
       rw (r .is)
       (accepted-when most (mapped (runOver d) used jobs) used e (r .few) still-good
-      ∙ ap (λ (js : List HashManyJob). record { number = accepted; index = 0; jobs = js }) (mapped-again (runOver d) (runOver e) (run-again d e) used jobs))
+      ∙ ap (λ (js : List HashManyJob). record { number = accepted; index = 0; jobs = js }) (mapped-again (runOver d) (runOver e) (λ j. sym (over-finished e (runOver d j) (over-finishes d j))) used jobs))

@@ -2,9 +2,9 @@
 -- Assumes nothing.
 use mathlib.Core.Path.{_≡_}
 use Rattle.hash.proofs.Unique.{unique}
-use Rattle.many.proofs.job.HashManyJob.zero.Reads as job-zero
-use Rattle.many.proofs.job.HashManyJob.new.Reads as job-new
-use Rattle.many.proofs.job.HashManyJob.to_hash.Reads as job-to-hash
+use Rattle.many.proofs.placed.HashManyJob.zero.Reads as job-zero
+use Rattle.many.proofs.placed.HashManyJob.new.Reads as job-new
+use Rattle.many.proofs.placed.HashManyJob.to_hash.Reads as job-to-hash
 use Rattle.many.proofs.batch.hash_many.Reads as hash-many
 
 pub job-zero-unique : (κs : _) (args : _) (r q : _) (exit : _) → job-zero.Post κs args r exit → job-zero.Post κs args q exit → r ≡ q

@@ -7,7 +7,7 @@ use lib.Dec.{leb, eqb}
 use lib.ListN.{length, take, drop}
 use Rattle.numbers.specs.Numbers.{accepted, batch-long}
 use Rattle.many.specs.Job.{runOver, jobRefusal}
-use Rattle.many.specs.declared.job.HashManyJob.{HashManyJob}
+use Rattle.many.specs.declared.placed.HashManyJob.{HashManyJob}
 use Rattle.many.specs.declared.batch.FirstBad.{FirstBad}
 use Rattle.many.specs.declared.batch.JobsAnswer.{JobsAnswer}
 

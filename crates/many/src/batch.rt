@@ -1,6 +1,6 @@
 // A batch of jobs over one lent buffer: all are checked, the first bad one decides, and only then is any run.
 // Each result stands at its job's place.
-use crate::job::HashManyJob;
+use crate::placed::HashManyJob;
 use numbers::ACCEPTED;
 use numbers::BATCH;
 ghost use mathlib.Core.Path.{_≡_};

@@ -1,0 +1,4 @@
+pub mod Answers
+pub mod Ownership
+pub mod StepCases
+pub mod Walk

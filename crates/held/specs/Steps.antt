@@ -1,0 +1,33 @@
+-- What a call on a job that holds its input does to its work: 14 first, then the call's own refusal.
+-- Assumes nothing.
+use mathlib.Core.Bool.{cond}
+use mathlib.Core.List.{List}
+use Prim.Native.Nat.{ℕ, _+_}
+use lib.Dec.{leb, eqb}
+use lib.ListN.{length}
+use Rattle.numbers.specs.Numbers.{accepted, total-over, bad-record, limit}
+use Rattle.hash.specs.Hash.{noHash}
+use Rattle.blake2b.specs.Params.{inRange}
+use Rattle.hash.specs.declared.HashAnswer.{HashAnswer}
+use Rattle.blake2b.specs.declared.params.Params.{Params}
+use Rattle.job.specs.Work.{zeroWork, workInRange, keyBytes, begun, runOn}
+use Rattle.job.specs.declared.work.Work.{Work}
+use Rattle.held.specs.declared.steps.WorkAnswer.{WorkAnswer}
+
+abbrev pub noWork : ℕ → WorkAnswer
+noWork refusal = record { number = refusal; work = zeroWork }
+
+-- making a job of an input: 14, then 6
+unfoldable pub madeWork : Params → List ℕ → WorkAnswer
+madeWork p m =
+    cond (inRange p)
+    (cond (leb (keyBytes p + length m) limit) (record { number = accepted; work = begun p (length m) }) (noWork total-over))
+    (noWork bad-record)
+
+-- running it: 14 leaves it, and a finished one is not run again
+unfoldable pub ranWork : Work → List ℕ → WorkAnswer
+ranWork w m = cond (workInRange w (length m)) (record { number = accepted; work = runOn m w }) (record { number = bad-record; work = w })
+
+-- an answer, unless something was refused before
+unfoldable pub unlessRefused : ℕ → HashAnswer → HashAnswer
+unlessRefused number a = cond (eqb number accepted) a (noHash number)

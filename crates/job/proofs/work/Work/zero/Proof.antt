@@ -1,0 +1,13 @@
+-- `job::work::Work::zero` meets its contract.
+-- Assumes nothing.
+use mathlib.Core.Path.{refl}
+use Rattle.laws.specs.Chain.{zeros}
+use Rattle.job.proofs.work.Work.zero.Statement.{statement}
+use Rattle.job.proofs.work.Work.zero.Tie as tie
+
+returns : tie.Need-returns
+unfolding zeros
+returns c = refl
+
+pub zero-spec : {M : Type 1} → statement M
+zero-spec = tie.close (tie.spec returns)

@@ -9,9 +9,8 @@ use borrow.Author.Tests.{not-true, not-false, eq-eqb, ne-eqb}
 use lib.Dec.{leb}
 use lib.ListN.{length}
 use Rattle.numbers.specs.Numbers.{accepted, total-over, bad-record, limit}
-use Rattle.hash.specs.Hash.{zeroHash}
+use Rattle.hash.specs.Hash.{noHash}
 use Rattle.blake2b.specs.Params.{inRange}
-use Rattle.hash.specs.declared.Hash.{Hash}
 use Rattle.hash.specs.declared.HashAnswer.{HashAnswer}
 use Rattle.blake2b.specs.declared.params.Params.{Params}
 use Rattle.job.specs.Work.{workInRange, keyBytes, begun, ran, runOn}
@@ -57,9 +56,9 @@ module _ (w : Work) (m : List ℕ) {good : Bool} (e : good ≡ workInRange w (le
 
 -- asking, unless something was refused before
 module _ (number : ℕ) (a : HashAnswer) where
-  pub refused-before : (number ≡ accepted → ⊥) → {h : Hash} → h ≡ zeroHash → record { number = number; hash = h } ≡ unlessRefused number a
+  pub refused-before : (number ≡ accepted → ⊥) → {r : HashAnswer} → r ≡ noHash number → r ≡ unlessRefused number a
   unfolding unlessRefused
-  refused-before e f = rw (ne-eqb number accepted e, f)
+  refused-before e f = rw (ne-eqb number accepted e) f
 
   pub not-refused : number ≡ accepted → a ≡ unlessRefused number a
   unfolding unlessRefused

@@ -6,7 +6,7 @@ use Rattle.held.proofs.steps.unless_refused.Statement.{statement}
 use Rattle.held.proofs.steps.unless_refused.Tie as tie
 
 returns : tie.Need-returns
-returns c = let a = c .before .before .args in refused-before (a .number) (a .answer) (c .before .if1 .taken) (c .zero .ensures)
+returns c = let a = c .before .before .args in refused-before (a .number) (a .answer) (c .before .if1 .taken) (c .refused .ensures)
 
 returns-2 : tie.Need-returns-2
 returns-2 c = let a = c .before .args in not-refused (a .number) (a .answer) (c .if1 .left)

@@ -1,4 +1,5 @@
 pub mod Answers
 pub mod Ownership
 pub mod StepCases
+pub mod Unique
 pub mod Walk

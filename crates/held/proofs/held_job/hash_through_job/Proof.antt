@@ -37,8 +37,8 @@ use denote.Exit.{yes}
 use Rattle.blake2b.specs.State.{hashed}
 use Rattle.hash.specs.declared.HashAnswer.{HashAnswer}
 use Rattle.blake2b.specs.declared.params.Params.{Params}
-use Rattle.blake2b.proofs.hash.HashAnswer as G
-use Rattle.blake2b.proofs.hash.HashAnswer.Laws as G′
+use Rattle.hash.proofs.HashAnswer as G
+use Rattle.hash.proofs.HashAnswer.Laws as G′
 use Rattle.blake2b.proofs.params.Params as P
 use Rattle.blake2b.proofs.params.Params.Laws as P′
 use Rattle.held.specs.Steps.{unlessRefused}

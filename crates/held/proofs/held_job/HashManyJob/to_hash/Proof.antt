@@ -34,8 +34,8 @@ use denote.Triple.Table.{entered, cited}
 use denote.Triple.Walked.{says, Stays, stay-none, walkOf, goes-none, ends-at}
 use denote.Exit.{yes}
 use Rattle.hash.specs.declared.HashAnswer.{HashAnswer}
-use Rattle.blake2b.proofs.hash.HashAnswer as G
-use Rattle.blake2b.proofs.hash.HashAnswer.Laws as G′
+use Rattle.hash.proofs.HashAnswer as G
+use Rattle.hash.proofs.HashAnswer.Laws as G′
 use Rattle.job.specs.Work.{workHash}
 use Rattle.job.proofs.work.Work as S
 use Rattle.job.proofs.work.Work.Laws as S′

@@ -22,8 +22,10 @@ class Row:
         return hashlib.blake2b(self.data, **self.setting).hexdigest()
 
 
-# Every method says the line of a call, with the answer that the table has for it.
+# Every method says the line of a call, with the answer that the table has for it. The records of a batch go as an array, or lent.
 class Table:
+    batch = "update_many"
+
     def __init__(self):
         self.rows = {}
         self.pieces = [(0, 0, 0)] * BATCH
@@ -93,7 +95,7 @@ class Table:
                 self.set_piece(place, piece)
         used = len(records) if used is None else used
         number, index = self.verdict(used, len(message.data))
-        say("bank update_many %d %s" % (used, message.text), batch_answer(number, index))
+        say("bank %s %d %s" % (self.batch, used, message.text), batch_answer(number, index))
         if number:
             self.show(sorted(self.rows))
             return
@@ -336,13 +338,17 @@ def drawn_histories():
         table.show_all()
 
 
+# Those with batches are said once in each form, with the same answers.
 def bank_histories():
-    slot_numbers()
-    open_and_close()
     outputs()
-    lengths()
-    all_slots()
-    piece_borders()
-    batch_lengths()
-    orders()
-    drawn_histories()
+    for form in "update_many", "update_lent":
+        Table.batch = form
+        note("batches by " + form)
+        slot_numbers()
+        open_and_close()
+        lengths()
+        all_slots()
+        piece_borders()
+        batch_lengths()
+        orders()
+        drawn_histories()

@@ -68,6 +68,13 @@ class Places:
         number = 14 if job is None else 12 if job.digest is None else 0
         say("job hash %d" % place, refused_digest(number) if number else digest_answer(job.digest))
 
+    # The digest of a job that keeps its input: that of the one at a place, over the same bytes.
+    def held(self, place, message):
+        job = self.jobs[place]
+        set_all(job.setting)
+        own = "%s[%d:%d]" % (message.text, job.start, job.start + job.length)
+        say("job held " + own, digest_answer(job.digest))
+
     # The first so many.
     def show(self, count):
         for place in range(count):
@@ -124,6 +131,7 @@ def no_input(places):
         places.hash(0)
         places.run(1, Message(0, 0))
         places.hash(0)
+        places.held(0, data)
 
 
 def sixteen_jobs(places):
@@ -135,6 +143,9 @@ def sixteen_jobs(places):
     places.show_all()
     places.run(16, data)
     places.show_all()
+    note("each of them as a job that keeps its input")
+    for place in range(PLACES):
+        places.held(place, data)
     note("a second run changes nothing, over the same, other, shorter or no data")
     for other in data, Message(70000, 6), Message(10, 7), Message(0, 0):
         places.run(16, other)

@@ -6,8 +6,11 @@ use crate::session::place;
 use crate::table;
 use bank::Bank;
 use bank::BankAnswer;
+use bank::BatchAnswer;
+use bank::MOST_RECORDS;
 use bank::Piece;
 use blake2b::Params;
+use lent::update_many_of;
 use replay_text::put_field;
 use replay_text::put_number;
 
@@ -46,10 +49,24 @@ fn set_piece(session: Session, numbers: [u64; 4], out: &mut [u8]) -> Reply {
     next.answered(put_number(out, 0))
 }
 
-fn update_many(session: Session, used: u64, data: &[u8], out: &mut [u8]) -> Reply {
+// The records as an array, or lent.
+fn batch(
+    bank: Bank,
+    row: usize,
+    pieces: [Piece; MOST_RECORDS],
+    used: usize,
+    data: &[u8],
+) -> BatchAnswer {
+    match row {
+        table::BANK_UPDATE_LENT => update_many_of(bank, pieces, used, data),
+        _ => bank.update_many(pieces, used, data),
+    }
+}
+
+fn update_many(session: Session, row: usize, used: u64, data: &[u8], out: &mut [u8]) -> Reply {
     let bank = session.bank;
     let pieces = session.pieces;
-    let answer = bank.update_many(pieces, used as usize, data);
+    let answer = batch(bank, row, pieces, used as usize, data);
     let next = answer.bank;
     let length = put_field(out, answer.number, b" index=", answer.index as u64);
     session.with_bank(next).answered(length)
@@ -64,7 +81,13 @@ pub fn call(
 ) -> Reply {
     match row {
         table::BANK_PIECE => set_piece(session, numbers, out),
-        table::BANK_UPDATE_MANY => update_many(session, numbers[0], message, out),
+        table::BANK_UPDATE_MANY..=table::BANK_UPDATE_LENT => update_many(
+            session,
+            row,
+            numbers[0],
+            message,
+            out,
+        ),
         _ => on_slot(session, row, numbers[0], message, out),
     }
 }

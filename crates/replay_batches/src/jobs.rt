@@ -4,6 +4,7 @@ use crate::session::Reply;
 use crate::session::Session;
 use crate::session::place;
 use crate::table;
+use held::hash_through_job;
 use many::HashManyJob;
 use many::hash_many;
 use replay::put_digest;
@@ -34,10 +35,16 @@ fn hash(session: Session, n: u64, out: &mut [u8]) -> Reply {
     session.answered(put_digest(out, job.to_hash()))
 }
 
+// A job that keeps its input, made, run and asked.
+fn held(session: Session, input: &[u8], out: &mut [u8]) -> Reply {
+    session.answered(put_digest(out, hash_through_job(session.params(), input)))
+}
+
 pub fn call(session: Session, row: usize, numbers: [u64; 4], data: &[u8], out: &mut [u8]) -> Reply {
     match row {
         table::JOB_NEW => new(session, numbers, data, out),
         table::JOB_RUN => run(session, numbers[0], data, out),
-        _ => hash(session, numbers[0], out),
+        table::JOB_HASH => hash(session, numbers[0], out),
+        _ => held(session, data, out),
     }
 }

@@ -16,8 +16,8 @@ fn make(session: Session, call: Call, message: &[u8], out: &mut [u8]) -> Reply {
     let fault = call.fault;
     let numbers = call.numbers;
     match row {
-        table::JOB_NEW..=table::JOB_HASH => jobs::call(session, row, numbers, message, out),
-        table::BANK_NEW..=table::BANK_UPDATE_MANY => banks::call(
+        table::JOB_NEW..=table::JOB_HELD => jobs::call(session, row, numbers, message, out),
+        table::BANK_NEW..=table::BANK_UPDATE_LENT => banks::call(
             session,
             row,
             numbers,

@@ -1,0 +1,3 @@
+pub mod Copies
+pub mod Lending
+pub mod Walk

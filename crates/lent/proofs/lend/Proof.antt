@@ -39,7 +39,7 @@ use denote.Triple.Spec.{Meets, tripleOf}
 use denote.Triple.Table.{entered, cited}
 use denote.Triple.Walked.{needs}
 use Rattle.bank.specs.Rules.{update-many}
-use Rattle.bank.specs.Slots.{batch-limit, told, batchAnswer}
+use Rattle.bank.specs.Slots.{slots, slot-limit, batch-limit, told, batchAnswer}
 use Rattle.bank.specs.declared.bank.Bank.{Bank}
 use Rattle.bank.specs.declared.piece.Piece.{Piece}
 use Rattle.bank.proofs.bank.Bank as B
@@ -48,7 +48,7 @@ use Rattle.bank.proofs.bank.BatchAnswer as R
 use Rattle.bank.proofs.bank.BatchAnswer.Laws as R′
 use Rattle.bank.proofs.piece.Piece as P
 use Rattle.bank.proofs.piece.Piece.Laws as P′
-use Rattle.lent.proofs.Copies.{front-length, front-serves}
+use Rattle.lent.proofs.Fronts.{front-length, front-serves}
 use Rattle.lent.proofs.Lending.{Kept, Lent, lends-front, room-back}
 use Rattle.lent.proofs.Walk.{contractOf, asks-nothing, calling, Ends, ends, meets}
 use Rattle.lent.proofs.update_many as many
@@ -184,7 +184,7 @@ module _ {M : Type 1} (𝓤 : URA M) (H : Heap 𝓤) (A : Atoms 𝓤) (W : Given
           returns ! (look ! 8 refl) $ forget ! 2 refl $ forget ! 3 refl $ forget ! 4 refl $ forget ! 5 refl $ forget ! 6 refl $ forget ! 7 refl $ forget ! 8 refl $
           move ! (8 ∷ 9 ∷ 7 ∷ 10 ∷ 6 ∷ 11 ∷ 5 ∷ 12 ∷ 4 ∷ 13 ∷ 0 ∷ 14 ∷ 2 ∷ 15 ∷ 3 ∷ 16 ∷ []) $ free1 ! $ free1 ! $ free1 ! $ free1 ! $ free1 ! $ free1 ! $ free1 ! $ free1 ! $ free0 ! $
           by ! (ends 𝓤 H A W lend.ended (lend.clauses 𝓤 H A mem run) passed u r (tt, (tt, (tt, (tt, tt)))) (LL.makes R.the-type R′.the-plain 𝓤 H A r (u ∷ []) is)
-          (factI 𝓤 (r ≡ batchAnswer (told bank (update-many ps used (z .now)))) (emp 𝓤) (e ∙ ap batchAnswer (front-serves bank used ps (z .now) (rw long within))))))))
+          (factI 𝓤 (r ≡ batchAnswer (told bank (update-many ps used (z .now)))) (emp 𝓤) (e ∙ ap batchAnswer (front-serves slots slot-limit batch-limit (bank .slots) (z .now) ps (take used ps) used (refl, counted))))))))
 
     walk : Is (ShrSlice (named 0) κ u8) z (w ∷ []) → ent 𝓤 (onEntry 𝓤 H A lend.signature (κ, tt) (q, tt) (bank, (ps, (used, (z, tt)))) vals) (WpFn 𝓤 H C Λ shown (a ∷ v ∷ vint w64 used ∷ w ∷ []) Post)
     unfolding shown

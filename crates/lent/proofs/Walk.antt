@@ -1,7 +1,6 @@
 -- What the walks share: a call of a function whose promise is a fact of its result, the tests of a loop, and the way from a walk to what is met,
 -- where the parameters are plain data or lent by `&`, so that nothing has to be had of them at exit.
 -- Assumes `Given`, and for a call that the table of calls is monotone under a frame.
-use mathlib.Core.Path.{_≡_}
 use Prim.Native.Nat.{ℕ}
 use mathlib.Core.List.{List, [], _∷_}
 use mathlib.Core.Bool.{Bool, not}
@@ -27,7 +26,7 @@ use denote.Triple.End.{Kepts, Fins}
 use denote.Triple.Entry.{Args, Res, alive, onEntry}
 use denote.Triple.Spec.{Meets, tripleOf}
 use denote.Triple.Clauses.{Clauses, Ended, Lasts, atExit, lasts, ensured, closing}
-use denote.Triple.Walked.{Stays, stay-dropped, hasOf, Fit, fitsOf, walkOf, Silent, goes-dropped, AllGo, ends-at, walked, walk-meets}
+use denote.Triple.Walked.{Stays, stay-dropped, hasOf, fitsOf, walkOf, Silent, goes-dropped, AllGo, ends-at, walked, walk-meets}
 
 -- the contract that a call cites
 abbrev pub contractOf : {M : Type 1} (𝓤 : URA M) (H : Heap 𝓤) (A : Atoms 𝓤) (T : Ended) → Clauses 𝓤 T → Contract 𝓤

@@ -10,7 +10,7 @@ use ghost.Atoms.{Atoms}
 use contract.Monad.{Fun, fact, factI, fact-use}
 use Rattle.blake2b.proofs.Unique.{unique}
 use Rattle.lent.proofs.update_many as update-many
-use Rattle.lent.proofs.update_many_of.Reads as update-many-of
+use Rattle.lent.proofs.update_many_of_array.Reads as update-many-of-array
 
 -- two facts that name the same answer
 pub facts-agree : {M : Type 1} (𝓤 : URA M) {B : Type 0} {r q a b : B} → a ≡ b → ent 𝓤 (sep 𝓤 (fact 𝓤 (r ≡ a)) (fact 𝓤 (q ≡ b))) (fact 𝓤 (r ≡ q))
@@ -23,5 +23,5 @@ pub update-many-unique : {M : Type 1} (𝓤 : URA M) (H : Heap 𝓤) (A : Atoms 
     → ent 𝓤 (sep 𝓤 (update-many.clauses 𝓤 H A mem run κs args .ensures tt r exit) (update-many.clauses 𝓤 H A mem run κs args .ensures tt q exit)) (fact 𝓤 (r ≡ q))
 update-many-unique 𝓤 H A mem run κs args r q exit = facts-agree 𝓤 refl
 
-pub update-many-of-unique : (κs : _) (args : _) (r q : _) (exit : _) → update-many-of.Post κs args r exit → update-many-of.Post κs args q exit → r ≡ q
-update-many-of-unique κs args r q exit e f = unique e f
+pub update-many-of-array-unique : (κs : _) (args : _) (r q : _) (exit : _) → update-many-of-array.Post κs args r exit → update-many-of-array.Post κs args q exit → r ≡ q
+update-many-of-array-unique κs args r q exit e f = unique e f

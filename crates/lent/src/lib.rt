@@ -11,11 +11,12 @@ ghost use Rattle.bank.specs.Rules.{update-many};
 ghost use Rattle.bank.specs.Slots.{batch-limit, told, batchAnswer};
 ghost use Rattle.lent.specs.Copy.{blank};
 
-// A copy of the records.
+// The records, copied. The functions up to `batch` do the work, so that the walk by hand below them only calls.
 struct Copied {
     list: [Piece; MOST_RECORDS],
 }
 
+// Places that are not used may hold any record.
 fn blank() -> Copied
     ensures { λ r. ⌜ r ≡ blank ⌝ }
 {
@@ -45,7 +46,7 @@ fn batch(bank: Bank, copied: Copied, used: usize, data: &[u8]) -> BatchAnswer
     bank.update_many(list, used, data)
 }
 
-// More records than a batch may have are not copied: their number alone has them refused.
+// A batch of all records of a lent list. Of a list that is too long the rest is not copied: its length alone has it refused.
 pub fn update_many(bank: Bank, pieces: &[Piece], data: &[u8]) -> BatchAnswer
     ensures { λ r. ⌜ r ≡ batchAnswer (told bank (update-many (now (pieces .entry)) (length (now (pieces .entry))) (now («data» .entry)))) ⌝ }
 {
@@ -61,7 +62,7 @@ pub fn update_many(bank: Bank, pieces: &[Piece], data: &[u8]) -> BatchAnswer
     batch(bank, copied, pieces.len(), data)
 }
 
-// The first `used` records, lent.
+// The first `used` records of an array, lent on.
 fn lend(bank: Bank, pieces: [Piece; MOST_RECORDS], used: usize, data: &[u8]) -> BatchAnswer
     requires { ⌜ used ≤ batch-limit ⌝ }
     ensures { λ r. ⌜ r ≡ batchAnswer (told bank (update-many pieces used (now («data» .entry)))) ⌝ }
@@ -69,8 +70,8 @@ fn lend(bank: Bank, pieces: [Piece; MOST_RECORDS], used: usize, data: &[u8]) -> 
     update_many(bank, &pieces[..used], data)
 }
 
-// For callers that hold an array: lending a slice of records is a walk of its own, which stands here once.
-pub fn update_many_of(
+// A batch of the first `used` records of an array, through a lent list: a caller that lends one itself needs a walk by hand.
+pub fn update_many_of_array(
     bank: Bank,
     pieces: [Piece; MOST_RECORDS],
     used: usize,

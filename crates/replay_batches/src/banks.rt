@@ -10,7 +10,7 @@ use bank::BatchAnswer;
 use bank::MOST_RECORDS;
 use bank::Piece;
 use blake2b::Params;
-use lent::update_many_of;
+use lent::update_many_of_array;
 use replay_text::put_field;
 use replay_text::put_number;
 
@@ -58,7 +58,7 @@ fn batch(
     data: &[u8],
 ) -> BatchAnswer {
     match row {
-        table::BANK_UPDATE_LENT => update_many_of(bank, pieces, used, data),
+        table::BANK_UPDATE_LENT => update_many_of_array(bank, pieces, used, data),
         _ => bank.update_many(pieces, used, data),
     }
 }

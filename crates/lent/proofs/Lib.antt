@@ -1,0 +1,6 @@
+pub mod Both
+pub mod Copies
+pub mod Fronts
+pub mod Lending
+pub mod Unique
+pub mod Walk

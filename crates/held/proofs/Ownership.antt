@@ -22,9 +22,10 @@ use denote.Ref.{RefT, NamedLft}
 use denote.Signature.{namedLft}
 use denote.Slice.{ShrSlice, slice-vals, shr-slice-copy}
 use denote.Steps.{nothing, owned}
-use denote.Struct.Declared.{Declared}
+use denote.Struct.Declared.{Declared, fields, row}
 use denote.Struct.Laws as LL
-use denote.Struct.Rest.{all-own, ownAt, rest, own-open, own-out, own-shut}
+use denote.Struct.Rest.{all-own, rest, own-open, own-out, own-shut}
+use denote.Struct.Struct.{Plains}
 use denote.Struct.Values.{Values}
 use Rattle.blake2b.specs.declared.params.Params.{Params}
 use Rattle.blake2b.proofs.params.Params as P
@@ -88,36 +89,42 @@ module _ {M : Type 1} (𝓤 : URA M) (H : Heap 𝓤) (A : Atoms 𝓤) (W : Given
   abbrev pub Token : Share → Item 𝓤
   Token q = ‵ (flft κ q) ⊛ ‵ ftrue
 
-  -- what its input owns comes out of what a job owns, which is kept
-  abbrev parts : HashManyJob → Values (D .parts)
-  parts j = (j .words, (j .count, (j .«last_node», (j .«hash_length», (j .input, (j .finished, tt))))))
+  abbrev pub InputOwn : RefT (List ℕ) → Fml
+  InputOwn x = Slice α .own x (slice-vals x)
 
-  pub input-out : (j : HashManyJob) → ent 𝓤 (sem 𝓤 H A (JobOwn j)) (sep 𝓤 (sem 𝓤 H A (Slice α .own (j .input) (slice-vals (j .input)))) (sem 𝓤 H A (JobOwn j)))
-  input-out j =
-      qed W (‵ (JobOwn j) ∷ []) ∵ use1 W (‵ (JobOwn j) ⊛ ‵ (JobOwn j)) (LL.copy D (T′.the-copy α) 𝓤 H A W .twice j (jobVal α j ∷ [])) $ split ! $
-      use1 W (given (jobVal α j ∷ [] ≡ jobVal α j ∷ []) (‵ (all-own (D .parts) L (parts j)))) (own-open 𝓤 H A W D L (parts j) (jobVal α j)) $ learn ! (λ _.
-      use1 W (‵ (ownAt (D .parts) L 4 (j .input)) ⊛ ‵ (rest (D .parts) L 4 (parts j))) (own-out 𝓤 H A W (D .parts) L 4 (parts j)) $ split ! $ move ! (1 ∷ []) $ drop ! $ frame ! $ done !)
+  -- what a function was handed holds what the input owns: beside parameters, and in a job
+  module _ (q : Share) where
+    abbrev pub GivenOwns : Params → RefT (List ℕ) → Fml
+    GivenOwns p x = owns (P.the-row ∷ Slice α ∷ []) (p, (x, tt)) (LL.vals P.the-type P′.the-laws p, (slice-vals x, tt))
 
-  -- so a job owns what a step asks for that takes its work and its input
-  module _ (q : Share) (j : HashManyJob) (is : Is (T.the-row α) j (jobVal α j ∷ [])) where
-    abbrev pub WorkOwns : Fml
-    WorkOwns = owns (S.the-row ∷ Slice α ∷ []) (workOf j, (j .input, tt)) (LL.vals S.the-type S′.the-laws (workOf j), (slice-vals (j .input), tt))
+    pub beside : (p : Params) (x : RefT (List ℕ)) → ent 𝓤 (⋆ 𝓤 H A (Token q ∷ ‵ (GivenOwns p x) ∷ [])) (⋆ 𝓤 H A (Token q ∷ ‵ (InputOwn x) ∷ []))
+    beside p x = qed W (Token q ∷ ‵ (GivenOwns p x) ∷ []) ∵ move ! (1 ∷ []) $ fsplit ! $ drop ! $ fsplit ! $ move ! (1 ∷ []) $ drop ! $ move ! (1 ∷ 0 ∷ []) $ done !
 
-    pub apart : {P : SProp 𝓤} → ent 𝓤 (⋆ 𝓤 H A (Token q ∷ ‵ WorkOwns ∷ [])) P → ent 𝓤 (⋆ 𝓤 H A (Token q ∷ ‵ (owns (T.the-row α ∷ []) (j, tt) (jobVal α j ∷ [], tt)) ∷ [])) (sep 𝓤 P (sem 𝓤 H A (JobOwn j)))
-    apart {P} asked =
-        qed W (Token q ∷ ‵ (owns (T.the-row α ∷ []) (j, tt) (jobVal α j ∷ [], tt)) ∷ []) ∵
-        move ! (1 ∷ []) $ fsplit ! $ move ! (1 ∷ []) $ drop ! $ use1 W (‵ (Slice α .own (j .input) (slice-vals (j .input))) ⊛ ‵ (JobOwn j)) (input-out j) $ split ! $
-        -- [what the input owns; what the job owns; the token]
-        nothing ! $ move ! (1 ∷ 0 ∷ []) $ fjoin ! $ owned ! S.the-row (Is S.the-row) (LL.makes S.the-type S′.the-plain 𝓤 H A) (workOf j) _ (is-work α j is) $ fjoin ! $
-        move ! (2 ∷ 0 ∷ []) $ use2 W (raw P) asked $ frame ! $ done !
+    pub inside : (j : HashManyJob) → ent 𝓤 (⋆ 𝓤 H A (Token q ∷ ‵ (owns (T.the-row α ∷ []) (j, tt) (jobVal α j ∷ [], tt)) ∷ [])) (⋆ 𝓤 H A (Token q ∷ ‵ (InputOwn (j .input)) ∷ []))
+    inside j =
+        let parts : Values (D .parts) = (j .words, (j .count, (j .«last_node», (j .«hash_length», (j .input, (j .finished, tt)))))) in
+        qed W (Token q ∷ ‵ (owns (T.the-row α ∷ []) (j, tt) (jobVal α j ∷ [], tt)) ∷ []) ∵ move ! (1 ∷ []) $ fsplit ! $ move ! (1 ∷ []) $ drop ! $
+        use1 W (given (jobVal α j ∷ [] ≡ jobVal α j ∷ []) (‵ (all-own (D .parts) L parts))) (own-open 𝓤 H A W D L parts (jobVal α j)) $ learn ! (λ _.
+        use1 W (‵ (InputOwn (j .input)) ⊛ ‵ (rest (D .parts) L 4 parts)) (own-out 𝓤 H A W (D .parts) L 4 parts) $ split ! $ move ! (1 ∷ []) $ drop ! $ move ! (1 ∷ 0 ∷ []) $ done !)
+
+    -- plain data and an input are lent to a step, and what the input owns is kept: a `&` is Copy, and what plain data owns is made anew
+    module _ (N : Declared) (plain : Plains (fields N)) (l : LL.Laws N) (d : N .D) (is : Is (row N) d (LL.vals N l d)) (x : RefT (List ℕ)) where
+      abbrev pub StepOwns : Fml
+      StepOwns = owns (row N ∷ Slice α ∷ []) (d, (x, tt)) (LL.vals N l d, (slice-vals x, tt))
+
+      pub lent : {Q : SProp 𝓤} → ent 𝓤 (⋆ 𝓤 H A (Token q ∷ ‵ StepOwns ∷ [])) Q → ent 𝓤 (⋆ 𝓤 H A (Token q ∷ ‵ (InputOwn x) ∷ [])) (sep 𝓤 Q (sem 𝓤 H A (InputOwn x)))
+      lent {Q} asked =
+          qed W (Token q ∷ ‵ (InputOwn x) ∷ []) ∵ move ! (1 ∷ []) $ use1 W (‵ (InputOwn x) ⊛ ‵ (InputOwn x)) (shr-slice-copy 𝓤 H A W (named 0) κ u8 .twice x (slice-vals x)) $ split ! $
+          -- [what the input owns, twice; the token]
+          nothing ! $ move ! (1 ∷ 0 ∷ []) $ fjoin ! $ owned ! (row N) (Is (row N)) (LL.makes N plain 𝓤 H A) d _ is $ fjoin ! $ move ! (2 ∷ 0 ∷ []) $ use2 W (raw Q) asked $ frame ! $ done !
 
   -- what an input owns makes what the answer owns that holds it
   pub together : (a : WorkAnswer) (x : RefT (List ℕ)) → Is R.the-row a (LL.vals R.the-type R′.the-laws a)
-      → ent 𝓤 (sem 𝓤 H A (Slice α .own x (slice-vals x))) (sem 𝓤 H A (J.the-row α .own (answered a x) (answerVal α (answered a x) ∷ [])))
+      → ent 𝓤 (sem 𝓤 H A (InputOwn x)) (sem 𝓤 H A (J.the-row α .own (answered a x) (answerVal α (answered a x) ∷ [])))
   together a x is =
       let o = LL.owed R.the-type R′.the-laws a _ is in
       let p = LL.owed S.the-type S′.the-laws (a .work) _ (o .1 .0) in
-      qed W (‵ (Slice α .own x (slice-vals x)) ∷ []) ∵
+      qed W (‵ (InputOwn x) ∷ []) ∵
       -- the fields from the last to the first
       nothing ! $ owned ! bool (Is bool) (bool-makes 𝓤 H A W) (a .work .finished) _ (p .1 .1 .1 .1 .0) $ fjoin ! $ move ! (1 ∷ 0 ∷ []) $ fjoin ! $
       owned ! u8 (Is u8) (uint-makes 𝓤 H A W w8) (a .work .«hash_length») _ (p .1 .1 .1 .0) $ fjoin ! $
@@ -135,26 +142,6 @@ module _ {M : Type 1} (𝓤 : URA M) (H : Heap 𝓤) (A : Atoms 𝓤) (W : Given
       use1 W (given (u ∷ [] ≡ answerVal α a ∷ []) (‵ (all-own (J.the-type α .parts) (J′.the-laws α) (a .number, (a .job, tt))))) (own-open 𝓤 H A W (J.the-type α) (J′.the-laws α) (a .number, (a .job, tt)) u) $ learn ! (λ _.
       use1 W (‵ (JobOwn (a .job)) ⊛ ‵ (rest (J.the-type α .parts) (J′.the-laws α) 1 (a .number, (a .job, tt)))) (own-out 𝓤 H A W (J.the-type α .parts) (J′.the-laws α) 1 (a .number, (a .job, tt))) $ split ! $
       move ! (1 ∷ []) $ drop ! $ done !)
-
-  -- parameters and an input are lent to a call, and what the input owns is kept: a `&` is Copy
-  module _ (q : Share) (p : Params) (x : RefT (List ℕ)) where
-    abbrev pub InputOwn : Fml
-    InputOwn = Slice α .own x (slice-vals x)
-
-    abbrev pub GivenOwns : Fml
-    GivenOwns = owns (P.the-row ∷ Slice α ∷ []) (p, (x, tt)) (LL.vals P.the-type P′.the-laws p, (slice-vals x, tt))
-
-    pub lent : {Q : SProp 𝓤} → ent 𝓤 (⋆ 𝓤 H A (Token q ∷ ‵ GivenOwns ∷ [])) Q → ent 𝓤 (⋆ 𝓤 H A (Token q ∷ ‵ GivenOwns ∷ [])) (sep 𝓤 Q (sem 𝓤 H A InputOwn))
-    lent {Q} asked =
-        qed W (Token q ∷ ‵ GivenOwns ∷ []) ∵
-        move ! (1 ∷ []) $ fsplit ! $ move ! (1 ∷ []) $ fsplit ! $ use1 W (‵ InputOwn ⊛ ‵ InputOwn) (shr-slice-copy 𝓤 H A W (named 0) κ u8 .twice x (slice-vals x)) $ split ! $
-        -- [what the input owns, twice; nothing; what the parameters own; the token]
-        move ! (0 ∷ 2 ∷ []) $ fjoin ! $ move ! (2 ∷ 0 ∷ []) $ fjoin ! $ move ! (2 ∷ 0 ∷ []) $ use2 W (raw Q) asked $ frame ! $ done !
-
-    -- what the parameters own is made anew
-    pub again : Is P.the-row p (LL.vals P.the-type P′.the-laws p) → ent 𝓤 (sem 𝓤 H A InputOwn) (sem 𝓤 H A GivenOwns)
-    again is =
-        qed W (‵ InputOwn ∷ []) ∵ nothing ! $ move ! (1 ∷ 0 ∷ []) $ fjoin ! $ owned ! P.the-row (Is P.the-row) (LL.makes P.the-type P′.the-plain 𝓤 H A) p _ is $ fjoin ! $ done !
 
 -- a key block has its full size
 pub whole-block : (p : Params) → Is P.the-row p (LL.vals P.the-type P′.the-laws p) → length (p .«key_block») ≡ 128

@@ -12,7 +12,7 @@ use Rattle.numbers.specs.Numbers.{accepted, total-over, piece-outside, bad-reco
 use Rattle.hash.specs.Hash.{noHash}
 use Rattle.blake2b.specs.Params.{inRange}
 use Rattle.blake2b.specs.declared.params.Params.{Params}
-use Rattle.job.specs.Work.{workInRange, keyBytes, begun, ran, runOn}
+use Rattle.job.specs.Work.{keyBytes, begun, ran}
 use Rattle.job.specs.declared.work.Work.{Work}
 use Rattle.job.proofs.Works.{run-finished, run-unfinished}
 use Rattle.job.proofs.Runs.{zero-out-of-range}

@@ -1,7 +1,7 @@
 -- The result at a place is the one-shot digest, with that job's own parameters, of that job's own input, whatever the other jobs are.
 -- Assumes nothing.
 use mathlib.Core.Path.{_≡_, refl, sym, ap, _∙_}
-use mathlib.Core.Bool.{Bool, true, false, or-true, _&&_, and-eq-true-iff}
+use mathlib.Core.Bool.{Bool, true, false, or-true, and-eq-true-iff}
 use mathlib.Core.List.{List, []}
 use Prim.Native.Nat.{ℕ, _+_, _<_, _≤_}
 use native.Mathlib.Omega.{arith}
@@ -14,7 +14,7 @@ use Rattle.numbers.specs.Numbers.{accepted, job-unfinished, limit, pieceOk}
 use Rattle.numbers.proofs.Pieces.{inside}
 use Rattle.hash.specs.Hash.{hashOf, noHash}
 use Rattle.blake2b.specs.Params.{asked, keyOf, Clean}
-use Rattle.blake2b.specs.State.{digest, hashed}
+use Rattle.blake2b.specs.State.{hashed}
 use Rattle.blake2b.specs.declared.params.Params.{Params}
 use Rattle.blake2b.proofs.Rows.{digest-is-hash}
 use Rattle.job.specs.Work.{finishedAtOnce, keyBytes, begun, runOn, workHash}

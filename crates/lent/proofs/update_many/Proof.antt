@@ -255,7 +255,7 @@ module _ {M : Type 1} (𝓤 : URA M) (H : Heap 𝓤) (A : Atoms 𝓤) (W : Given
           assigns-last ! (bin ! (load ! (from ! (stop !)) (look ! 3 refl)) (lit ! tt) (record { fits = next-fits })) (from ! (stop !)) (store ! 3 refl (tt, record { fits = next-fits })) $
           forget ! 4 refl $ forget ! 5 refl $ forget ! 6 refl $ forget ! 7 refl $ move ! (2 ∷ 3 ∷ 4 ∷ 5 ∷ 6 ∷ 7 ∷ 1 ∷ 0 ∷ []) $
           by ! (below (n - y .0) (y .0 + 1, (r, u)) (omega (arith, there)) (subst (λ (s : Copied). Copies (y .0 + 1) (s .list) (x .now)) (sym e) (copies-next (y .0) (y .1 .0 .list) (x .now) noPiece there low (f .0)), is))))))
-          (λ stop. forget ! 2 refl $ forget ! 3 refl $ by ! (rest y (λ l. omega (arith, l, leb→le batch-limit (y .0) stop)) f)))
+          (λ full. forget ! 2 refl $ forget ! 3 refl $ by ! (rest y (λ l. omega (arith, l, leb→le batch-limit (y .0) full)) f)))
           (λ out. forget ! 2 refl $ forget ! 3 refl $ by ! (rest y (λ _. nltb→le (y .0) n out) f))
         where
           elem : Y → Piece

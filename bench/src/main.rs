@@ -75,9 +75,11 @@ const BATCHES: usize = 5;
 // The records of a bank's batch, and the jobs of one.
 const RECORDS: usize = 16;
 const PIECE: usize = 4 << 10;
-// A bank and a state go by value: a timed call makes its own, and asks it so often that this does not show.
-const REPEATS: usize = 64;
 const SMALL: usize = 64;
+// A bank and a state go by value: a timed call makes its own, and hands it so many batches or updates that this
+// does not show, and no more, so that a busy machine leaves some calls undisturbed.
+const REPEATS: usize = 16;
+const UPDATES: usize = 4096;
 // The size of a bank, and how often an update of one slot copies it (docs/SPEED.md).
 const BANK: usize = 16 * 224;
 const BANK_COPIES: usize = 6;
@@ -262,14 +264,14 @@ fn time_call(call: &dyn Fn()) -> f64 {
 // What a bank and jobs take, against the same bytes one after another: each named, with the number of what the name
 // says that one timed call does. Then what a bank's copies are of its update.
 fn time_records(data: &[u8], rounds: usize) {
-    let (piece, small, updates) = (&data[..PIECE], &data[..SMALL], RECORDS * REPEATS);
-    let by_slot: &dyn Fn() = &|| _ = opaque(by_slot(opaque(small), updates, 0));
+    let (piece, small) = (&data[..PIECE], &data[..SMALL]);
+    let by_slot: &dyn Fn() = &|| _ = opaque(by_slot(opaque(small), UPDATES, 0));
     let pairs: [(&str, usize, &dyn Fn(), &dyn Fn()); 4] = [
         (
             "a batch of 16 pieces of 4 KiB : 16 State::update",
             REPEATS,
             &|| _ = opaque(by_batches(opaque(piece), REPEATS, 0)),
-            &|| _ = opaque(by_updates(opaque(piece), updates)),
+            &|| _ = opaque(by_updates(opaque(piece), RECORDS * REPEATS)),
         ),
         (
             "16 jobs of 4 KiB, made, run and read : 16 one-shot",
@@ -279,14 +281,14 @@ fn time_records(data: &[u8], rounds: usize) {
         ),
         (
             "Bank::update of 64 bytes : State::update",
-            updates,
+            UPDATES,
             by_slot,
-            &|| _ = opaque(by_updates(opaque(small), updates)),
+            &|| _ = opaque(by_updates(opaque(small), UPDATES)),
         ),
         (
             "6 copies of a bank : Bank::update of 64 bytes",
-            updates,
-            &|| by_copies(updates),
+            UPDATES,
+            &|| by_copies(UPDATES),
             by_slot,
         ),
     ];

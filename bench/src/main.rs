@@ -1,12 +1,12 @@
-//! Times this library's block loop and its BLAKE2b against the portable code of the Rust crate, and its bank and
-//! its hash jobs against its states and one-shot hashes, in one process.
+//! Times this library's block loop, its BLAKE2b and its BLAKE2bp against the portable code of the Rust crate, and its
+//! bank and its hash jobs against its states and one-shot hashes, in one process.
 //!
 //! The sides and the sizes take turns, so that a slow spell of the machine meets all of them, and the
 //! fastest of many rounds counts, since whatever disturbs a round only makes it slower. The crate also runs
 //! against itself, which shows the noise of the clock and the machine. It does not show
 //! what depends on where the linker puts each side's code: that changes with the build, not with the run.
 
-use blake2b_simd::{benchmarks, Params};
+use blake2b_simd::{benchmarks, blake2bp, Params};
 use std::time::Instant;
 
 #[link(name = "exports", kind = "static")]
@@ -23,6 +23,11 @@ extern "C" {
     fn sumpillow_write_words(words: &[u64; 8], out: &mut [u8; 64]);
     fn sumpillow_blake2b(input: *const u8, length: usize, out: *mut u8, room: usize) -> u8;
     fn sumpillow_state(input: *const u8, length: usize, out: *mut u8, room: usize) -> u8;
+}
+
+#[link(name = "exports_blake2bp", kind = "static")]
+extern "C" {
+    fn sumpillow_blake2bp(input: *const u8, length: usize, out: *mut u8, room: usize) -> u8;
 }
 
 #[link(name = "exports_bank", kind = "static")]
@@ -61,15 +66,23 @@ const INITIAL: [u64; 8] = [
 ];
 
 const SIZES: [usize; 4] = [64, 128, 4 << 10, 1 << 20];
-// Ours: the block loop, one-shot, through a state; then the crate, twice.
-const SIDES: usize = 5;
+// Four of ours, then the crate's BLAKE2b, twice, and its BLAKE2bp.
+const SIDES: usize = 7;
+const LOOP: usize = 0;
+const CRATE: usize = 4;
+const CRATE_BP: usize = 6;
 const BATCHES: usize = 5;
 // The records of a bank's batch, and the jobs of one.
 const RECORDS: usize = 16;
 const PIECE: usize = 4 << 10;
-// A bank and a state go by value: a timed call makes its own, and asks it so often that this does not show.
-const REPEATS: usize = 64;
 const SMALL: usize = 64;
+// A bank and a state go by value: a timed call makes its own, and hands it so many batches or updates that this
+// does not show, and no more, so that a busy machine leaves some calls undisturbed.
+const REPEATS: usize = 16;
+const UPDATES: usize = 4096;
+// The size of a bank, and how often an update of one slot copies it (docs/SPEED.md).
+const BANK: usize = 16 * 224;
+const BANK_COPIES: usize = 6;
 // A timed run hashes at least this much, so that the clock's own cost does not show.
 const LEAST_BYTES: usize = 64 << 10;
 
@@ -130,13 +143,35 @@ fn by_jobs(input: &[u8]) -> [Digest; RECORDS] {
     digests
 }
 
+// What so many updates of a slot copy of whole banks, from one place to the next, and nothing else.
+fn by_copies(times: usize) {
+    let mut banks = [[0u8; BANK]; BANK_COPIES + 1];
+    let first = banks.as_mut_ptr();
+    for _ in 0..times {
+        for copy in 0..BANK_COPIES {
+            let from = unsafe { opaque(first).add(copy) };
+            unsafe { from.copy_to_nonoverlapping(from.add(1), 1) };
+        }
+    }
+}
+
 fn portable() -> Params {
     let mut params = Params::new();
     benchmarks::force_portable(&mut params);
     params
 }
 
+fn portable_bp() -> blake2bp::Params {
+    let mut params = blake2bp::Params::new();
+    benchmarks::force_portable_blake2bp(&mut params);
+    params
+}
+
 fn theirs(params: &Params, input: &[u8]) -> Digest {
+    *params.hash(input).as_array()
+}
+
+fn theirs_bp(params: &blake2bp::Params, input: &[u8]) -> Digest {
     *params.hash(input).as_array()
 }
 
@@ -159,6 +194,14 @@ fn check_agreement(data: &[u8]) {
             by_loop(&data[..1024], last_node, true),
             theirs(&params, &every_fourth)
         );
+    }
+}
+
+fn check_blake2bp(data: &[u8]) {
+    let params = portable_bp();
+    for length in (0..=2500).chain(SIZES) {
+        let input = &data[..length];
+        assert_eq!(by_call(sumpillow_blake2bp, input), theirs_bp(&params, input), "{length} bytes");
     }
 }
 
@@ -218,39 +261,53 @@ fn time_call(call: &dyn Fn()) -> f64 {
     start.elapsed().as_nanos() as f64
 }
 
-// What a bank and jobs take, against the same bytes one after another, each named.
+// What a bank and jobs take, against the same bytes one after another: each named, with the number of what the name
+// says that one timed call does. Then what a bank's copies are of its update.
 fn time_records(data: &[u8], rounds: usize) {
     let (piece, small) = (&data[..PIECE], &data[..SMALL]);
-    let pairs: [(&str, &dyn Fn(), &dyn Fn()); 3] = [
+    let by_slot: &dyn Fn() = &|| _ = opaque(by_slot(opaque(small), UPDATES, 0));
+    let pairs: [(&str, usize, &dyn Fn(), &dyn Fn()); 4] = [
         (
             "a batch of 16 pieces of 4 KiB : 16 State::update",
+            REPEATS,
             &|| _ = opaque(by_batches(opaque(piece), REPEATS, 0)),
             &|| _ = opaque(by_updates(opaque(piece), RECORDS * REPEATS)),
         ),
         (
             "16 jobs of 4 KiB, made, run and read : 16 one-shot",
+            1,
             &|| _ = opaque(by_jobs(opaque(piece))),
             &|| (0..RECORDS).for_each(|_| _ = opaque(by_call(sumpillow_blake2b, opaque(piece)))),
         ),
         (
             "Bank::update of 64 bytes : State::update",
-            &|| _ = opaque(by_slot(opaque(small), RECORDS * REPEATS, 0)),
-            &|| _ = opaque(by_updates(opaque(small), RECORDS * REPEATS)),
+            UPDATES,
+            by_slot,
+            &|| _ = opaque(by_updates(opaque(small), UPDATES)),
+        ),
+        (
+            "6 copies of a bank : Bank::update of 64 bytes",
+            UPDATES,
+            &|| by_copies(UPDATES),
+            by_slot,
         ),
     ];
-    let mut fastest = [[[f64::INFINITY; BATCHES]; 2]; 3];
+    let mut fastest = pairs.map(|_| [[f64::INFINITY; BATCHES]; 2]);
     for batch in 0..BATCHES {
         for round in 0..rounds {
-            for ((_, ours, sequential), best) in pairs.iter().zip(&mut fastest) {
+            for ((_, calls, first, second), best) in pairs.iter().zip(&mut fastest) {
                 for turn in 0..2 {
                     let side = (round + turn) % 2;
-                    best[side][batch] = best[side][batch].min(time_call([ours, sequential][side]));
+                    let each = time_call([first, second][side]) / *calls as f64;
+                    best[side][batch] = best[side][batch].min(each);
                 }
             }
         }
     }
-    for ((what, ..), [ours, sequential]) in pairs.iter().zip(fastest) {
-        println!("{what:<52}{}", ratio(ours, sequential));
+    println!("{:<52}{:>10}{:>10}  {}", "", "ns", "ns", "ratio");
+    for ((what, ..), [first, second]) in pairs.iter().zip(fastest) {
+        let [least_first, least_second] = [first, second].map(least);
+        println!("{what:<52}{least_first:>10.0}{least_second:>10.0}  {}", ratio(first, second));
     }
 }
 
@@ -262,51 +319,48 @@ fn main() {
         .map(|i| (i * 7 + i / 251) as u8)
         .collect();
     check_agreement(&data);
+    check_blake2bp(&data);
     check_records(&data);
 
-    let params = portable();
+    let (params, params_bp) = (portable(), portable_bp());
     let crate_side = |input: &[u8]| theirs(&params, input);
-    let sides: [&dyn Fn(&[u8]) -> Digest; SIDES] = [
-        &|input| by_loop(input, false, false),
-        &|input| by_call(sumpillow_blake2b, input),
-        &|input| by_call(sumpillow_state, input),
-        &crate_side,
-        &crate_side,
+    // Each with the one of the crate's that it stands against.
+    let sides: [(&str, &dyn Fn(&[u8]) -> Digest, usize); SIDES] = [
+        ("loop", &|input| by_loop(input, false, false), CRATE),
+        ("hash", &|input| by_call(sumpillow_blake2b, input), CRATE),
+        ("state", &|input| by_call(sumpillow_state, input), CRATE),
+        ("bp", &|input| by_call(sumpillow_blake2bp, input), CRATE_BP),
+        ("crate", &crate_side, CRATE),
+        ("crate again", &crate_side, CRATE),
+        ("crate bp", &|input| theirs_bp(&params_bp, input), CRATE_BP),
     ];
+    let digests = SIZES.map(|length| sides.map(|(_, hash, _)| hash(&data[..length])));
 
     let mut fastest = [[[f64::INFINITY; BATCHES]; SIDES]; SIZES.len()];
     for batch in 0..BATCHES {
         for round in 0..rounds {
             for (size, length) in SIZES.into_iter().enumerate() {
-                let input = &data[..length];
-                let expected = crate_side(input);
                 for turn in 0..SIDES {
                     let side = (round + turn) % SIDES;
+                    let (_, hash, against) = sides[side];
                     let best = &mut fastest[size][side][batch];
-                    *best = best.min(time(sides[side], input, &expected));
+                    *best = best.min(time(hash, &data[..length], &digests[size][against]));
                 }
             }
         }
     }
 
     println!("loop: the block loop, finalizing, from the initial words, and the digest's bytes");
-    println!("hash: BLAKE2b one-shot; state: through a state and one update; crate: Params::hash, portable");
-    println!("all gave the same digests; nothing clears its buffers");
-    println!("crate : itself is the noise within a run; the placement of code, fixed by the build, adds to it");
-    println!("ratios of the fastest of all rounds to the crate's (of {BATCHES} batches of {rounds} rounds: lowest, median, highest)");
-    println!(
-        "{:>8} {:>10}  {:<28}{:<28}{:<28}{}",
-        "bytes", "crate ns/B", "loop", "hash", "state", "crate : itself"
-    );
-    for (length, [by_loop, hash, state, first, again]) in SIZES.into_iter().zip(fastest) {
-        println!(
-            "{length:>8} {:>10.3}  {:<28}{:<28}{:<28}{}",
-            least(first),
-            ratio(by_loop, first),
-            ratio(hash, first),
-            ratio(state, first),
-            ratio(again, first)
-        );
+    println!("hash: BLAKE2b one-shot; state: through a state and one update; bp: BLAKE2bp one-shot");
+    println!("crate, crate bp: Params::hash of each, portable; all gave its digests; nothing clears its buffers");
+    println!("crate again is the noise within a run; the placement of code, fixed by the build, adds to it");
+    println!("ratios of the fastest of all rounds (of {BATCHES} batches of {rounds} rounds: lowest, median, highest)");
+    println!("{:>8} {:<12}{:>8}  {:<28}{}", "bytes", "", "ns/B", "to the crate's own", "to the loop");
+    for (length, times) in SIZES.into_iter().zip(fastest) {
+        for ((name, _, against), own) in sides.into_iter().zip(times) {
+            let [to_crate, to_loop] = [against, LOOP].map(|other| ratio(own, times[other]));
+            println!("{length:>8} {name:<12}{:>8.3}  {to_crate:<28}{to_loop}", least(own));
+        }
     }
     time_records(&data, rounds);
 }

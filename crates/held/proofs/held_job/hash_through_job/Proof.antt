@@ -43,7 +43,7 @@ use Rattle.held.specs.HeldJob.{madeJob, ranJob, jobHash}
 use Rattle.held.specs.declared.held_job.HashManyJob.{HashManyJob}
 use Rattle.held.specs.declared.held_job.JobAnswer.{JobAnswer}
 use Rattle.held.proofs.Answers.{through}
-use Rattle.held.proofs.Walk.{contractOf, calling, Ends, ends, meets, spelled}
+use Rattle.walks.proofs.Walk.{contractOf, calling, Ends, ends, meets, spelled}
 use Rattle.held.proofs.Ownership.{jobVal, JobOwn, GivenOwns, Token, job-out, whole-block}
 use Rattle.held.proofs.held_job.HashManyJob as T
 use Rattle.held.proofs.held_job.HashManyJob.Laws as T′

@@ -35,7 +35,7 @@ use Rattle.blake2b.proofs.params.Params.Laws as P′
 use Rattle.held.specs.Steps.{madeWork}
 use Rattle.held.specs.HeldJob.{holding, answered, madeJob}
 use Rattle.held.specs.declared.steps.WorkAnswer.{WorkAnswer}
-use Rattle.held.proofs.Walk.{contractOf, calling, Ends, ends, meets, spelled, is-spelled}
+use Rattle.walks.proofs.Walk.{contractOf, calling, Ends, ends, meets, spelled, is-spelled}
 use Rattle.held.proofs.Ownership.{answerVal, InputOwn, StepOwns, Token, is-held, is-answered, beside, lent, together}
 use Rattle.held.proofs.steps.WorkAnswer as R
 use Rattle.held.proofs.steps.WorkAnswer.Laws as R′

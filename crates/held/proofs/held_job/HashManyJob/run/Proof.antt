@@ -36,7 +36,7 @@ use Rattle.held.specs.Steps.{ranWork}
 use Rattle.held.specs.HeldJob.{workOf, holding, answered, ranJob}
 use Rattle.held.specs.declared.steps.WorkAnswer.{WorkAnswer}
 use Rattle.held.specs.declared.held_job.HashManyJob.{HashManyJob}
-use Rattle.held.proofs.Walk.{contractOf, calling, Ends, ends, meets, spelled, is-spelled}
+use Rattle.walks.proofs.Walk.{contractOf, calling, Ends, ends, meets, spelled, is-spelled}
 use Rattle.held.proofs.Ownership.{jobVal, answerVal, InputOwn, StepOwns, Token, is-work, is-held, is-answered, inside, lent, together}
 use Rattle.held.proofs.steps.WorkAnswer as R
 use Rattle.held.proofs.steps.WorkAnswer.Laws as R′

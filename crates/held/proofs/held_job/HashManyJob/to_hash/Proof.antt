@@ -37,7 +37,7 @@ use Rattle.job.proofs.work.Work as S
 use Rattle.job.proofs.work.Work.Laws as S′
 use Rattle.held.specs.HeldJob.{workOf, jobHash}
 use Rattle.held.specs.declared.held_job.HashManyJob.{HashManyJob}
-use Rattle.held.proofs.Walk.{contractOf, calling, Ends, ends, meets}
+use Rattle.walks.proofs.Walk.{contractOf, calling, Ends, ends, meets}
 use Rattle.held.proofs.Ownership.{jobVal, InputOwn, StepOwns, Token, is-work, inside, lent}
 use Rattle.held.proofs.held_job.HashManyJob as T
 use Rattle.held.proofs.held_job.HashManyJob.Laws as T′

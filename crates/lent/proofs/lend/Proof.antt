@@ -38,6 +38,7 @@ use denote.Triple.Entry.{Vals, onEntry}
 use denote.Triple.Spec.{Meets, tripleOf}
 use denote.Triple.Table.{entered, cited}
 use denote.Triple.Walked.{needs}
+use Rattle.walks.proofs.Walk.{contractOf, asks-nothing, calling, Ends, ends, meets}
 use Rattle.bank.specs.Rules.{update-many}
 use Rattle.bank.specs.Slots.{slots, slot-limit, batch-limit, told, batchAnswer}
 use Rattle.bank.specs.declared.bank.Bank.{Bank}
@@ -50,7 +51,6 @@ use Rattle.bank.proofs.piece.Piece as P
 use Rattle.bank.proofs.piece.Piece.Laws as P′
 use Rattle.lent.proofs.Fronts.{front-length, front-serves}
 use Rattle.lent.proofs.Lending.{Kept, Lent, lends-front, room-back}
-use Rattle.lent.proofs.Walk.{contractOf, asks-nothing, calling, Ends, ends, meets}
 use Rattle.lent.proofs.update_many as many
 use Rattle.lent.proofs.update_many.Symbol as many-def
 use Rattle.lent.proofs.update_many.Met as many-thm
@@ -177,13 +177,13 @@ module _ {M : Type 1} (𝓤 : URA M) (H : Heap 𝓤) (A : Atoms 𝓤) (W : Given
           -- [what is asked; what is kept; _6; _7; _4; _3; _2; _1; _0; that each dies]
           calling many.ended (many.clauses 𝓤 H A mem run) ! (fmOf 𝓤 H (W .laws) 𝓣) known (to-many l₅ α γ) (λ r. r ≡ batchAnswer (told bank (update-many (take used ps) (length (take used ps)) (z .now)))) (λ r ws. id⊢ 𝓤 _)
           (and-then ! (load ! (from ! (stop !)) (look ! 7 refl)) (and-then ! (load ! (from ! (stop !)) (look ! 3 refl)) (and-then ! (load ! (from ! (stop !)) (look ! 4 refl)) (no-more !)))) (λ r u e is.
-          land ! (from ! (stop !)) (init ! 8 refl (LL.lawful R.the-type R′.the-laws 𝓤 H A W .typed r _ is .0)) $
-          use1 W (‵ (flft (α ∷ []) fullShare) ⊛ Token) (id⊢ 𝓤 _) $ split ! $ lft-end ! tt $ move ! (0 ∷ 2 ∷ []) $
+          land ! (from ! (stop !)) (init ! 9 refl (LL.lawful R.the-type R′.the-laws 𝓤 H A W .typed r _ is .0)) $
+          move ! (1 ∷ []) $ use1 W (‵ (flft (α ∷ []) fullShare) ⊛ Token) (id⊢ 𝓤 _) $ split ! $ lft-end ! tt $ move ! (0 ∷ 3 ∷ []) $
           use2 W (later (‵ (froom array l₅ 0))) (room-back 𝓤 H A W P.the-row batch-limit used ps l₅ 0 (α ∷ []) long) $ await ! tt $
-          -- [_5; the data's token; _6; _7; _4; _3; _2; _1; _0; that each dies]
-          returns ! (look ! 8 refl) $ forget ! 2 refl $ forget ! 3 refl $ forget ! 4 refl $ forget ! 5 refl $ forget ! 6 refl $ forget ! 7 refl $ forget ! 8 refl $
-          move ! (8 ∷ 9 ∷ 7 ∷ 10 ∷ 6 ∷ 11 ∷ 5 ∷ 12 ∷ 4 ∷ 13 ∷ 0 ∷ 14 ∷ 2 ∷ 15 ∷ 3 ∷ 16 ∷ []) $ free1 ! $ free1 ! $ free1 ! $ free1 ! $ free1 ! $ free1 ! $ free1 ! $ free1 ! $ free0 ! $
-          by ! (ends 𝓤 H A W lend.ended (lend.clauses 𝓤 H A mem run) passed u r (tt, (tt, (tt, (tt, tt)))) (LL.makes R.the-type R′.the-plain 𝓤 H A r (u ∷ []) is)
+          -- [_5; the data's token; what the answer owns; _6; _7; _4; _3; _2; _1; _0; that each dies]
+          returns ! (look ! 9 refl) $ forget ! 3 refl $ forget ! 4 refl $ forget ! 5 refl $ forget ! 6 refl $ forget ! 7 refl $ forget ! 8 refl $ forget ! 9 refl $
+          move ! (9 ∷ 10 ∷ 8 ∷ 11 ∷ 7 ∷ 12 ∷ 6 ∷ 13 ∷ 5 ∷ 14 ∷ 0 ∷ 15 ∷ 3 ∷ 16 ∷ 4 ∷ 17 ∷ []) $ free1 ! $ free1 ! $ free1 ! $ free1 ! $ free1 ! $ free1 ! $ free1 ! $ free1 ! $ free0 ! $ move ! (1 ∷ 0 ∷ []) $
+          by ! (ends 𝓤 H A W lend.ended (lend.clauses 𝓤 H A mem run) passed u r (tt, (tt, (tt, (tt, tt))))
           (factI 𝓤 (r ≡ batchAnswer (told bank (update-many ps used (z .now)))) (emp 𝓤) (e ∙ ap batchAnswer (front-serves slots slot-limit batch-limit (bank .slots) (z .now) ps (take used ps) used (refl, counted))))))))
 
     walk : Is (ShrSlice (named 0) κ u8) z (w ∷ []) → ent 𝓤 (onEntry 𝓤 H A lend.signature (κ, tt) (q, tt) (bank, (ps, (used, (z, tt)))) vals) (WpFn 𝓤 H C Λ shown (a ∷ v ∷ vint w64 used ∷ w ∷ []) Post)

@@ -40,6 +40,8 @@ use denote.Triple.Entry.{Vals, onEntry}
 use denote.Triple.Spec.{Meets, tripleOf}
 use denote.Triple.Table.{entered, cited}
 use denote.Triple.Walked.{says}
+use Rattle.walks.proofs.Tests.{goes-on-if, breaks-if}
+use Rattle.walks.proofs.Walk.{contractOf, asks-nothing, calling, Ends, ends, meets}
 use Rattle.bank.specs.Rules.{update-many}
 use Rattle.bank.specs.Slots.{batch-limit, told, batchAnswer}
 use Rattle.bank.specs.declared.bank.Bank.{Bank}
@@ -56,7 +58,6 @@ use Rattle.lent.specs.declared.Copied.{Copied}
 use Rattle.lent.proofs.Copied as S
 use Rattle.lent.proofs.Copied.Laws as S′
 use Rattle.lent.proofs.Copies.{Copies, copies-none, copies-next, copies-serve}
-use Rattle.lent.proofs.Walk.{contractOf, asks-nothing, calling, goes-on-if, breaks-if, Ends, ends, meets}
 use Rattle.lent.proofs.blank as blank-fn
 use Rattle.lent.proofs.blank.Symbol as blank-def
 use Rattle.lent.proofs.blank.Met as blank-thm
@@ -207,13 +208,13 @@ module _ {M : Type 1} (𝓤 : URA M) (H : Heap 𝓤) (A : Atoms 𝓤) (W : Given
           -- [what is asked; the copy; i; _6; _7; _8; _9; what the records own; their token; _3; _2; _1; _0; _10; that each dies]
           calling batch.ended (batch.clauses 𝓤 H A mem run) ! (fmOf 𝓤 H (W .laws) 𝓣) known-batch (to-batch y) (λ r. r ≡ answer (y .1 .0 .list)) (λ r ws. id⊢ 𝓤 _)
           (and-then ! (load ! (from ! (stop !)) (look ! 11 refl)) (and-then ! (load ! (from ! (stop !)) (look ! 1 refl)) (and-then ! (load ! (from ! (stop !)) (look ! 13 refl)) (and-then ! (load ! (from ! (stop !)) (look ! 9 refl)) (no-more !))))) (λ r u e is.
-          land ! (from ! (stop !)) (init ! 12 refl (LL.lawful R.the-type R′.the-laws 𝓤 H A W .typed r _ is .0)) $
-          returns ! (look ! 12 refl) $ forget ! 1 refl $ forget ! 2 refl $ forget ! 9 refl $ forget ! 10 refl $ forget ! 11 refl $ forget ! 12 refl $ forget ! 13 refl $
-          move ! (12 ∷ 14 ∷ 11 ∷ 15 ∷ 10 ∷ 16 ∷ 9 ∷ 17 ∷ 1 ∷ 18 ∷ 2 ∷ 19 ∷ 3 ∷ 20 ∷ 4 ∷ 21 ∷ 5 ∷ 22 ∷ 6 ∷ 23 ∷ 13 ∷ 24 ∷ []) $
+          land ! (from ! (stop !)) (init ! 13 refl (LL.lawful R.the-type R′.the-laws 𝓤 H A W .typed r _ is .0)) $
+          returns ! (look ! 13 refl) $ forget ! 2 refl $ forget ! 3 refl $ forget ! 10 refl $ forget ! 11 refl $ forget ! 12 refl $ forget ! 13 refl $ forget ! 14 refl $
+          move ! (13 ∷ 15 ∷ 12 ∷ 16 ∷ 11 ∷ 17 ∷ 10 ∷ 18 ∷ 2 ∷ 19 ∷ 3 ∷ 20 ∷ 4 ∷ 21 ∷ 5 ∷ 22 ∷ 6 ∷ 23 ∷ 7 ∷ 24 ∷ 14 ∷ 25 ∷ []) $
           free1 ! $ free1 ! $ free1 ! $ free1 ! $ free1 ! $ free1 ! $ free1 ! $ free1 ! $ free1 ! $ free1 ! $ free1 ! $ free0 ! $
-          -- [the data's token; what the records own; their token]
-          move ! (2 ∷ 0 ∷ []) $ join ! $ keep ! (0 ∷ []) $
-          by ! (ends 𝓤 H A W lent.ended (lent.clauses 𝓤 H A mem run) passed u r (tt, (tt, (tt, tt))) (LL.makes R.the-type R′.the-plain 𝓤 H A r (u ∷ []) is)
+          -- [what the answer owns; the data's token; what the records own; their token]
+          move ! (3 ∷ 1 ∷ []) $ join ! $ keep ! (1 ∷ 0 ∷ []) $
+          by ! (ends 𝓤 H A W lent.ended (lent.clauses 𝓤 H A mem run) passed u r (tt, (tt, (tt, tt)))
           (factI 𝓤 (r ≡ answer (x .now)) (emp 𝓤) (e ∙ ap batchAnswer (copies-serve bank (y .0) (y .1 .0 .list) (x .now) (z .now) all (f .0))))))
 
       inv-in : (y : Y) → Facts y → ent 𝓤 (⋆ 𝓤 H A (At y)) (Inv (n - y .0))
@@ -251,7 +252,7 @@ module _ {M : Type 1} (𝓤 : URA M) (H : Heap 𝓤) (A : Atoms 𝓤) (W : Given
           -- [what is asked; the records' token; what they own; the copy; i; _6; _7; _8; _9; …]
           calling stored.ended (stored.clauses 𝓤 H A mem run) ! (fmOf 𝓤 H (W .laws) 𝓣) known-stored (to-stored y (elem y) (mach y)) (λ r. r ≡ record { list = set (y .1 .0 .list) (y .0) (elem y) }) (λ r ws. id⊢ 𝓤 _)
           (and-then ! (load ! (from ! (stop !)) (look ! 3 refl)) (and-then ! (load ! (from ! (stop !)) (look ! 4 refl)) (and-then ! (load ! (from ! (stop !)) (look ! 8 refl)) (no-more !)))) (λ r u e is.
-          land ! (from ! (stop !)) (store ! 3 refl (LL.lawful S.the-type S′.the-laws 𝓤 H A W .typed r _ is .0)) $ drop ! $
+          land ! (from ! (stop !)) (store ! 4 refl (LL.lawful S.the-type S′.the-laws 𝓤 H A W .typed r _ is .0)) $ drop ! $ drop ! $
           assigns-last ! (bin ! (load ! (from ! (stop !)) (look ! 3 refl)) (lit ! tt) (record { fits = next-fits })) (from ! (stop !)) (store ! 3 refl (tt, record { fits = next-fits })) $
           forget ! 4 refl $ forget ! 5 refl $ forget ! 6 refl $ forget ! 7 refl $ move ! (2 ∷ 3 ∷ 4 ∷ 5 ∷ 6 ∷ 7 ∷ 1 ∷ 0 ∷ []) $
           by ! (below (n - y .0) (y .0 + 1, (r, u)) (omega (arith, there)) (subst (λ (s : Copied). Copies (y .0 + 1) (s .list) (x .now)) (sym e) (copies-next (y .0) (y .1 .0 .list) (x .now) noPiece there low (f .0)), is))))))
@@ -276,7 +277,7 @@ module _ {M : Type 1} (𝓤 : URA M) (H : Heap 𝓤) (A : Atoms 𝓤) (W : Given
       body =
           qed W (‵ (froom S′.mir l₄ 0) ∷ ‵ (froom word l₅ 0) ∷ Rest) ∵ exec ! C Λ En mir′.t-1 (atRet En Post) $ use0 W (raw (Blank .pre to-blank)) goes-blank $
           calling blank-fn.ended (blank-fn.clauses 𝓤 H A mem run) ! (fmOf 𝓤 H (W .laws) 𝓣) known-blank to-blank (λ r. r ≡ blank) (λ r ws. id⊢ 𝓤 _) (no-more !) (λ r u e is.
-          land ! (from ! (stop !)) (init ! 1 refl (LL.lawful S.the-type S′.the-laws 𝓤 H A W .typed r _ is .0)) $ drop ! $
+          land ! (from ! (stop !)) (init ! 2 refl (LL.lawful S.the-type S′.the-laws 𝓤 H A W .typed r _ is .0)) $ drop ! $ drop ! $
           assigns ! (of-opd ! (lit ! tt)) (from ! (stop !)) (init ! 1 refl (tt, record { fits = lit< tt })) $
           by ! (loops (0, (r, u)) (subst (λ (s : Copied). Copies 0 (s .list) (x .now)) (sym e) (copies-none (x .now)), is)))
 

@@ -18,7 +18,6 @@ use prog.Wp.{Heap, Env, Calls, Loops, Wp, atReturn, WpFn, Tables}
 use ghost.Atoms.{Atoms}
 use contract.Monad.{Fun, factI}
 use contract.Running.{givenOf, tables, tablesOf}
-use sound.WpLaws.{fmOf}
 use types.Kit.{Given, Item, ‵, raw, _⊛_, ⋆, some, later, atRet, _$_, _∵_, !, qed, by, move, keep, drop, use1, use2, use3, split, join, pick, rewrite, fsplit, fjoin, frame, await, done}
 use types.Tokens.{lft-new, lft-end}
 use types.Part.{agg}
@@ -35,10 +34,9 @@ use denote.Steps.{only, nothing, owned}
 use denote.Struct.Laws as LL
 use denote.Triple.Statement.{Contract, Triple}
 use denote.Triple.Entry.{Vals, onEntry}
-use denote.Triple.Spec.{Meets, tripleOf}
-use denote.Triple.Table.{entered, cited}
+use denote.Triple.Table.{cited}
 use denote.Triple.Walked.{needs}
-use Rattle.walks.proofs.Walk.{contractOf, asks-nothing, calling, Ends, ends, meets}
+use Rattle.walks.proofs.Walk.{contractOf, asks-nothing, calling, Ends, ends, stands}
 use Rattle.bank.specs.Rules.{update-many}
 use Rattle.bank.specs.Slots.{slots, slot-limit, batch-limit, told, batchAnswer}
 use Rattle.bank.specs.declared.bank.Bank.{Bank}
@@ -175,7 +173,7 @@ module _ {M : Type 1} (𝓤 : URA M) (H : Heap 𝓤) (A : Atoms 𝓤) (W : Given
           -- [what is lent; what is kept; the new token; _6; _7; what the data own; their token; _4; _3; _2; _1; _0; that each dies]
           move ! (2 ∷ 6 ∷ []) $ join ! $ move ! (0 ∷ 1 ∷ 5 ∷ []) $ use3 W (raw (Many .pre (to-many l₅ α γ))) (goes-many l₅ α γ) $
           -- [what is asked; what is kept; _6; _7; _4; _3; _2; _1; _0; that each dies]
-          calling many.ended (many.clauses 𝓤 H A mem run) ! (fmOf 𝓤 H (W .laws) 𝓣) known (to-many l₅ α γ) (λ r. r ≡ batchAnswer (told bank (update-many (take used ps) (length (take used ps)) (z .now)))) (λ r ws. id⊢ 𝓤 _)
+          calling many.ended (many.clauses 𝓤 H A mem run) ! 𝓣 known (to-many l₅ α γ) (λ r. r ≡ batchAnswer (told bank (update-many (take used ps) (length (take used ps)) (z .now)))) (λ r ws. id⊢ 𝓤 _)
           (and-then ! (load ! (from ! (stop !)) (look ! 7 refl)) (and-then ! (load ! (from ! (stop !)) (look ! 3 refl)) (and-then ! (load ! (from ! (stop !)) (look ! 4 refl)) (no-more !)))) (λ r u e is.
           land ! (from ! (stop !)) (init ! 9 refl (LL.lawful R.the-type R′.the-laws 𝓤 H A W .typed r _ is .0)) $
           move ! (1 ∷ []) $ use1 W (‵ (flft (α ∷ []) fullShare) ⊛ Token) (id⊢ 𝓤 _) $ split ! $ lft-end ! tt $ move ! (0 ∷ 3 ∷ []) $
@@ -197,19 +195,11 @@ module _ {M : Type 1} (𝓤 : URA M) (H : Heap 𝓤) (A : Atoms 𝓤) (W : Given
         -- [what the data own; true; _7; that it dies; …; _0; that it dies; the token]
         keep ! (6 ∷ 4 ∷ 2 ∷ 0 ∷ 18 ∷ 8 ∷ 10 ∷ 12 ∷ 14 ∷ 16 ∷ 17 ∷ 15 ∷ 13 ∷ 11 ∷ 9 ∷ 7 ∷ 5 ∷ 3 ∷ []) $ by ! (body l₀ l₁ l₂ l₃ l₄ l₅ l₆ l₇)))))))))
 
-module _ {M : Type 1} (𝓤 : URA M) (H : Heap 𝓤) (A : Atoms 𝓤) (W : Given 𝓤 H A) (mem : Memory → SProp 𝓤) (run : Routine → Fun 𝓤) (𝓣 : Tables 𝓤 H) (known : Triple 𝓤 (𝓣 .C many-def.name) (contractOf 𝓤 H A many.ended (many.clauses 𝓤 H A mem run))) where
-  proved : Meets 𝓤 H A lend.signature (WpFn 𝓤 H (𝓣 .C) (𝓣 .Λ) code.function) (lend.spec 𝓤 H A mem run)
-  unfolding shown
-  proved =
-      meets 𝓤 H A W lend.ended (lend.clauses 𝓤 H A mem run) ((λ κs x f. refl), ((λ κs x f. refl), ((λ κs x f. refl), ((λ κs x f. refl), tt)))) code.function 𝓣
-      (λ κs. (LL.vals B.the-type B′.the-laws, (spelled, (uint-vals w64, (slice-vals, tt)))))
-      (λ κs. (LL.tells B.the-type B′.the-laws, (array-tells P.the-row (LL.vals P.the-type P′.the-laws) (LL.tells P.the-type P′.the-laws) batch-limit, (uint-tells w64, (shr-slice-tells (named 0) (κs .0) u8, tt)))))
-      (λ κs qs bounds b g are. needs 𝓤 _ _ (λ l. walk 𝓤 H A W mem run (κs .0) (qs .0) (b .0) (b .1 .0) (b .1 .1 .0) (b .1 .1 .1 .0) (are .0) (are .1 .0) (are .1 .1 .0 .1) l 𝓣 known (are .1 .1 .1 .0)))
-
 pub lend-spec : {M : Type 1} → stated.statement M
-unfolding code.routine tablesOf
+unfolding code.routine tablesOf shown
 lend-spec 𝓤 H 𝓜 𝓖 𝓡 =
-    entered 𝓤 H (tripleOf 𝓤 H (𝓖 .A) lend.signature (lend.spec 𝓤 H (𝓖 .A) (𝓜 .mem) (𝓡 .run)))
-    (tables 𝓤 H 𝓜 𝓡 code.env .C) (tables 𝓤 H 𝓜 𝓡 code.env .Λ) #lent·lend code.function (code.unfolded 𝓤 H 𝓜 𝓡)
-    (proved 𝓤 H (𝓖 .A) (givenOf 𝓤 H 𝓜 𝓖) (𝓜 .mem) (𝓡 .run) (tablesOf 𝓤 H 𝓜 (tables 𝓤 H 𝓜 𝓡 code.env))
-    (cited 𝓤 H (contractOf 𝓤 H (𝓖 .A) many.ended (many.clauses 𝓤 H (𝓖 .A) (𝓜 .mem) (𝓡 .run))) 𝓜 𝓡 code.env many-def.name many-def.routine code.calls-lent·update-many (many-thm.met 𝓤 H 𝓜 𝓖 𝓡)))
+    stands 𝓤 H 𝓜 𝓖 𝓡 code.env lend.ended (lend.clauses 𝓤 H (𝓖 .A) (𝓜 .mem) (𝓡 .run)) #lent·lend code.function (code.unfolded 𝓤 H 𝓜 𝓡) ((λ κs x f. refl), ((λ κs x f. refl), ((λ κs x f. refl), ((λ κs x f. refl), tt))))
+    (λ κs. (LL.vals B.the-type B′.the-laws, (spelled, (uint-vals w64, (slice-vals, tt)))))
+    (λ κs. (LL.tells B.the-type B′.the-laws, (array-tells P.the-row (LL.vals P.the-type P′.the-laws) (LL.tells P.the-type P′.the-laws) batch-limit, (uint-tells w64, (shr-slice-tells (named 0) (κs .0) u8, tt)))))
+    (λ κs qs bounds b g are. needs 𝓤 _ _ (λ l. walk 𝓤 H (𝓖 .A) (givenOf 𝓤 H 𝓜 𝓖) (𝓜 .mem) (𝓡 .run) (κs .0) (qs .0) (b .0) (b .1 .0) (b .1 .1 .0) (b .1 .1 .1 .0) (are .0) (are .1 .0) (are .1 .1 .0 .1) l (tablesOf 𝓤 H 𝓜 (tables 𝓤 H 𝓜 𝓡 code.env))
+    (cited 𝓤 H (contractOf 𝓤 H (𝓖 .A) many.ended (many.clauses 𝓤 H (𝓖 .A) (𝓜 .mem) (𝓡 .run))) 𝓜 𝓡 code.env many-def.name many-def.routine code.calls-lent·update-many (many-thm.met 𝓤 H 𝓜 𝓖 𝓡)) (are .1 .1 .1 .0)))

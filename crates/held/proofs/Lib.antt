@@ -2,4 +2,3 @@ pub mod Answers
 pub mod Ownership
 pub mod StepCases
 pub mod Unique
-pub mod Walk

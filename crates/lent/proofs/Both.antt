@@ -27,7 +27,7 @@ use Rattle.bank.proofs.bank.Bank.update_many as array-form
 use Rattle.lent.specs.Forms.{Front, Lends, Alike}
 use Rattle.lent.proofs.update_many as lent-form
 use Rattle.lent.proofs.Fronts.{front-serves}
-use Rattle.lent.proofs.Unique.{facts-agree}
+use Rattle.walks.proofs.Settled.{facts-agree}
 
 -- what the two functions promise, of the same records: an answer that meets the one promise is the answer that meets the other
 pub same-answer : {M : Type 1} (𝓤 : URA M) (H : Heap 𝓤) (A : Atoms 𝓤) (mem : Memory → SProp 𝓤) (run : Routine → Fun 𝓤) (κs : _) (κs′ : _) (b : Bank) (ps : List Piece) (used : ℕ) (x : RefT (List Piece)) (z z′ : RefT (List ℕ)) (r q : BatchAnswer) (exit : _) (exit′ : _)

@@ -3,4 +3,3 @@ pub mod Copies
 pub mod Fronts
 pub mod Lending
 pub mod Unique
-pub mod Walk

@@ -18,7 +18,6 @@ use prog.Wp.{Heap, Env, Calls, Loops, Wp, atReturn, WpFn, Tables}
 use ghost.Atoms.{Atoms}
 use contract.Monad.{Fun, factI}
 use contract.Running.{givenOf, tables, tablesOf}
-use sound.WpLaws.{fmOf}
 use types.Kit.{Given, Item, ‵, raw, _⊛_, ⋆, some, later, atRet, _$_, _∵_, !, qed, by, move, keep, drop, use1, use2, use3, split, join, pick, rewrite, fsplit, fjoin, frame, await, done}
 use types.Tokens.{lft-new, lft-end}
 use types.Part.{agg}
@@ -35,9 +34,9 @@ use denote.Steps.{only, nothing, owned}
 use denote.Struct.Laws as LL
 use denote.Triple.Statement.{Contract, Triple}
 use denote.Triple.Entry.{Vals, onEntry}
-use denote.Triple.Spec.{Meets, tripleOf}
-use denote.Triple.Table.{entered, cited}
+use denote.Triple.Table.{cited}
 use denote.Triple.Walked.{needs}
+use Rattle.walks.proofs.Walk.{contractOf, asks-nothing, calling, Ends, ends, stands}
 use Rattle.bank.specs.Rules.{update-many}
 use Rattle.bank.specs.Slots.{slots, slot-limit, batch-limit, told, batchAnswer}
 use Rattle.bank.specs.declared.bank.Bank.{Bank}
@@ -50,7 +49,6 @@ use Rattle.bank.proofs.piece.Piece as P
 use Rattle.bank.proofs.piece.Piece.Laws as P′
 use Rattle.lent.proofs.Fronts.{front-length, front-serves}
 use Rattle.lent.proofs.Lending.{Kept, Lent, lends-front, room-back}
-use Rattle.lent.proofs.Walk.{contractOf, asks-nothing, calling, Ends, ends, meets}
 use Rattle.lent.proofs.update_many as many
 use Rattle.lent.proofs.update_many.Symbol as many-def
 use Rattle.lent.proofs.update_many.Met as many-thm
@@ -175,15 +173,15 @@ module _ {M : Type 1} (𝓤 : URA M) (H : Heap 𝓤) (A : Atoms 𝓤) (W : Given
           -- [what is lent; what is kept; the new token; _6; _7; what the data own; their token; _4; _3; _2; _1; _0; that each dies]
           move ! (2 ∷ 6 ∷ []) $ join ! $ move ! (0 ∷ 1 ∷ 5 ∷ []) $ use3 W (raw (Many .pre (to-many l₅ α γ))) (goes-many l₅ α γ) $
           -- [what is asked; what is kept; _6; _7; _4; _3; _2; _1; _0; that each dies]
-          calling many.ended (many.clauses 𝓤 H A mem run) ! (fmOf 𝓤 H (W .laws) 𝓣) known (to-many l₅ α γ) (λ r. r ≡ batchAnswer (told bank (update-many (take used ps) (length (take used ps)) (z .now)))) (λ r ws. id⊢ 𝓤 _)
+          calling many.ended (many.clauses 𝓤 H A mem run) ! 𝓣 known (to-many l₅ α γ) (λ r. r ≡ batchAnswer (told bank (update-many (take used ps) (length (take used ps)) (z .now)))) (λ r ws. id⊢ 𝓤 _)
           (and-then ! (load ! (from ! (stop !)) (look ! 7 refl)) (and-then ! (load ! (from ! (stop !)) (look ! 3 refl)) (and-then ! (load ! (from ! (stop !)) (look ! 4 refl)) (no-more !)))) (λ r u e is.
-          land ! (from ! (stop !)) (init ! 8 refl (LL.lawful R.the-type R′.the-laws 𝓤 H A W .typed r _ is .0)) $
-          use1 W (‵ (flft (α ∷ []) fullShare) ⊛ Token) (id⊢ 𝓤 _) $ split ! $ lft-end ! tt $ move ! (0 ∷ 2 ∷ []) $
+          land ! (from ! (stop !)) (init ! 9 refl (LL.lawful R.the-type R′.the-laws 𝓤 H A W .typed r _ is .0)) $
+          move ! (1 ∷ []) $ use1 W (‵ (flft (α ∷ []) fullShare) ⊛ Token) (id⊢ 𝓤 _) $ split ! $ lft-end ! tt $ move ! (0 ∷ 3 ∷ []) $
           use2 W (later (‵ (froom array l₅ 0))) (room-back 𝓤 H A W P.the-row batch-limit used ps l₅ 0 (α ∷ []) long) $ await ! tt $
-          -- [_5; the data's token; _6; _7; _4; _3; _2; _1; _0; that each dies]
-          returns ! (look ! 8 refl) $ forget ! 2 refl $ forget ! 3 refl $ forget ! 4 refl $ forget ! 5 refl $ forget ! 6 refl $ forget ! 7 refl $ forget ! 8 refl $
-          move ! (8 ∷ 9 ∷ 7 ∷ 10 ∷ 6 ∷ 11 ∷ 5 ∷ 12 ∷ 4 ∷ 13 ∷ 0 ∷ 14 ∷ 2 ∷ 15 ∷ 3 ∷ 16 ∷ []) $ free1 ! $ free1 ! $ free1 ! $ free1 ! $ free1 ! $ free1 ! $ free1 ! $ free1 ! $ free0 ! $
-          by ! (ends 𝓤 H A W lend.ended (lend.clauses 𝓤 H A mem run) passed u r (tt, (tt, (tt, (tt, tt)))) (LL.makes R.the-type R′.the-plain 𝓤 H A r (u ∷ []) is)
+          -- [_5; the data's token; what the answer owns; _6; _7; _4; _3; _2; _1; _0; that each dies]
+          returns ! (look ! 9 refl) $ forget ! 3 refl $ forget ! 4 refl $ forget ! 5 refl $ forget ! 6 refl $ forget ! 7 refl $ forget ! 8 refl $ forget ! 9 refl $
+          move ! (9 ∷ 10 ∷ 8 ∷ 11 ∷ 7 ∷ 12 ∷ 6 ∷ 13 ∷ 5 ∷ 14 ∷ 0 ∷ 15 ∷ 3 ∷ 16 ∷ 4 ∷ 17 ∷ []) $ free1 ! $ free1 ! $ free1 ! $ free1 ! $ free1 ! $ free1 ! $ free1 ! $ free1 ! $ free0 ! $ move ! (1 ∷ 0 ∷ []) $
+          by ! (ends 𝓤 H A W lend.ended (lend.clauses 𝓤 H A mem run) passed u r (tt, (tt, (tt, (tt, tt))))
           (factI 𝓤 (r ≡ batchAnswer (told bank (update-many ps used (z .now)))) (emp 𝓤) (e ∙ ap batchAnswer (front-serves slots slot-limit batch-limit (bank .slots) (z .now) ps (take used ps) used (refl, counted))))))))
 
     walk : Is (ShrSlice (named 0) κ u8) z (w ∷ []) → ent 𝓤 (onEntry 𝓤 H A lend.signature (κ, tt) (q, tt) (bank, (ps, (used, (z, tt)))) vals) (WpFn 𝓤 H C Λ shown (a ∷ v ∷ vint w64 used ∷ w ∷ []) Post)
@@ -197,19 +195,11 @@ module _ {M : Type 1} (𝓤 : URA M) (H : Heap 𝓤) (A : Atoms 𝓤) (W : Given
         -- [what the data own; true; _7; that it dies; …; _0; that it dies; the token]
         keep ! (6 ∷ 4 ∷ 2 ∷ 0 ∷ 18 ∷ 8 ∷ 10 ∷ 12 ∷ 14 ∷ 16 ∷ 17 ∷ 15 ∷ 13 ∷ 11 ∷ 9 ∷ 7 ∷ 5 ∷ 3 ∷ []) $ by ! (body l₀ l₁ l₂ l₃ l₄ l₅ l₆ l₇)))))))))
 
-module _ {M : Type 1} (𝓤 : URA M) (H : Heap 𝓤) (A : Atoms 𝓤) (W : Given 𝓤 H A) (mem : Memory → SProp 𝓤) (run : Routine → Fun 𝓤) (𝓣 : Tables 𝓤 H) (known : Triple 𝓤 (𝓣 .C many-def.name) (contractOf 𝓤 H A many.ended (many.clauses 𝓤 H A mem run))) where
-  proved : Meets 𝓤 H A lend.signature (WpFn 𝓤 H (𝓣 .C) (𝓣 .Λ) code.function) (lend.spec 𝓤 H A mem run)
-  unfolding shown
-  proved =
-      meets 𝓤 H A W lend.ended (lend.clauses 𝓤 H A mem run) ((λ κs x f. refl), ((λ κs x f. refl), ((λ κs x f. refl), ((λ κs x f. refl), tt)))) code.function 𝓣
-      (λ κs. (LL.vals B.the-type B′.the-laws, (spelled, (uint-vals w64, (slice-vals, tt)))))
-      (λ κs. (LL.tells B.the-type B′.the-laws, (array-tells P.the-row (LL.vals P.the-type P′.the-laws) (LL.tells P.the-type P′.the-laws) batch-limit, (uint-tells w64, (shr-slice-tells (named 0) (κs .0) u8, tt)))))
-      (λ κs qs bounds b g are. needs 𝓤 _ _ (λ l. walk 𝓤 H A W mem run (κs .0) (qs .0) (b .0) (b .1 .0) (b .1 .1 .0) (b .1 .1 .1 .0) (are .0) (are .1 .0) (are .1 .1 .0 .1) l 𝓣 known (are .1 .1 .1 .0)))
-
 pub lend-spec : {M : Type 1} → stated.statement M
-unfolding code.routine tablesOf
+unfolding code.routine tablesOf shown
 lend-spec 𝓤 H 𝓜 𝓖 𝓡 =
-    entered 𝓤 H (tripleOf 𝓤 H (𝓖 .A) lend.signature (lend.spec 𝓤 H (𝓖 .A) (𝓜 .mem) (𝓡 .run)))
-    (tables 𝓤 H 𝓜 𝓡 code.env .C) (tables 𝓤 H 𝓜 𝓡 code.env .Λ) #lent·lend code.function (code.unfolded 𝓤 H 𝓜 𝓡)
-    (proved 𝓤 H (𝓖 .A) (givenOf 𝓤 H 𝓜 𝓖) (𝓜 .mem) (𝓡 .run) (tablesOf 𝓤 H 𝓜 (tables 𝓤 H 𝓜 𝓡 code.env))
-    (cited 𝓤 H (contractOf 𝓤 H (𝓖 .A) many.ended (many.clauses 𝓤 H (𝓖 .A) (𝓜 .mem) (𝓡 .run))) 𝓜 𝓡 code.env many-def.name many-def.routine code.calls-lent·update-many (many-thm.met 𝓤 H 𝓜 𝓖 𝓡)))
+    stands 𝓤 H 𝓜 𝓖 𝓡 code.env lend.ended (lend.clauses 𝓤 H (𝓖 .A) (𝓜 .mem) (𝓡 .run)) #lent·lend code.function (code.unfolded 𝓤 H 𝓜 𝓡) ((λ κs x f. refl), ((λ κs x f. refl), ((λ κs x f. refl), ((λ κs x f. refl), tt))))
+    (λ κs. (LL.vals B.the-type B′.the-laws, (spelled, (uint-vals w64, (slice-vals, tt)))))
+    (λ κs. (LL.tells B.the-type B′.the-laws, (array-tells P.the-row (LL.vals P.the-type P′.the-laws) (LL.tells P.the-type P′.the-laws) batch-limit, (uint-tells w64, (shr-slice-tells (named 0) (κs .0) u8, tt)))))
+    (λ κs qs bounds b g are. needs 𝓤 _ _ (λ l. walk 𝓤 H (𝓖 .A) (givenOf 𝓤 H 𝓜 𝓖) (𝓜 .mem) (𝓡 .run) (κs .0) (qs .0) (b .0) (b .1 .0) (b .1 .1 .0) (b .1 .1 .1 .0) (are .0) (are .1 .0) (are .1 .1 .0 .1) l (tablesOf 𝓤 H 𝓜 (tables 𝓤 H 𝓜 𝓡 code.env))
+    (cited 𝓤 H (contractOf 𝓤 H (𝓖 .A) many.ended (many.clauses 𝓤 H (𝓖 .A) (𝓜 .mem) (𝓡 .run))) 𝓜 𝓡 code.env many-def.name many-def.routine code.calls-lent·update-many (many-thm.met 𝓤 H 𝓜 𝓖 𝓡)) (are .1 .1 .1 .0)))

@@ -21,7 +21,6 @@ use ghost.Atoms.{Atoms}
 use contract.Monad.{Fun, factI}
 use contract.Running.{givenOf, tables, tablesOf}
 use sound.Loop.{loop-rule}
-use sound.WpLaws.{fmOf}
 use types.Kit.{Given, Item, ‵, raw, _⊛_, ⋆, anyQ, atRet, _$_, _∵_, !, qed, by, move, keep, drop, use0, use1, use2, split, join, rewrite, fsplit, fjoin, frame, done}
 use types.Part.{whole, sub, look-in}
 use types.Run.{look, store, init, forget, stop, hop, fld, from, load, lit, of-opd, bin, assigns, assigns-last, and-then, no-more, land, returns, enter, alloc1, alloc0, params1, pass1, pass0, free1, free0, exec}
@@ -37,9 +36,10 @@ use denote.Steps.{nothing, owned}
 use denote.Struct.Laws as LL
 use denote.Triple.Statement.{Contract, Triple}
 use denote.Triple.Entry.{Vals, onEntry}
-use denote.Triple.Spec.{Meets, tripleOf}
-use denote.Triple.Table.{entered, cited}
+use denote.Triple.Table.{cited}
 use denote.Triple.Walked.{says}
+use Rattle.walks.proofs.Tests.{goes-on-if, breaks-if}
+use Rattle.walks.proofs.Walk.{contractOf, asks-nothing, calling, Ends, ends, stands}
 use Rattle.bank.specs.Rules.{update-many}
 use Rattle.bank.specs.Slots.{batch-limit, told, batchAnswer}
 use Rattle.bank.specs.declared.bank.Bank.{Bank}
@@ -56,7 +56,6 @@ use Rattle.lent.specs.declared.Copied.{Copied}
 use Rattle.lent.proofs.Copied as S
 use Rattle.lent.proofs.Copied.Laws as S′
 use Rattle.lent.proofs.Copies.{Copies, copies-none, copies-next, copies-serve}
-use Rattle.lent.proofs.Walk.{contractOf, asks-nothing, calling, goes-on-if, breaks-if, Ends, ends, meets}
 use Rattle.lent.proofs.blank as blank-fn
 use Rattle.lent.proofs.blank.Symbol as blank-def
 use Rattle.lent.proofs.blank.Met as blank-thm
@@ -205,15 +204,15 @@ module _ {M : Type 1} (𝓤 : URA M) (H : Heap 𝓤) (A : Atoms 𝓤) (W : Given
           assigns ! (of-opd ! (load ! (from ! (fld ! refl (stop !))) (look-in ! 11 (sub ! 1 refl (whole !))))) (from ! (stop !)) (init ! 14 refl (tt, record { fits = room .0 })) $
           move ! (9 ∷ 8 ∷ []) $ use2 W (raw (Batch .pre (to-batch y))) (goes-batch y (f .1)) $
           -- [what is asked; the copy; i; _6; _7; _8; _9; what the records own; their token; _3; _2; _1; _0; _10; that each dies]
-          calling batch.ended (batch.clauses 𝓤 H A mem run) ! (fmOf 𝓤 H (W .laws) 𝓣) known-batch (to-batch y) (λ r. r ≡ answer (y .1 .0 .list)) (λ r ws. id⊢ 𝓤 _)
+          calling batch.ended (batch.clauses 𝓤 H A mem run) ! 𝓣 known-batch (to-batch y) (λ r. r ≡ answer (y .1 .0 .list)) (λ r ws. id⊢ 𝓤 _)
           (and-then ! (load ! (from ! (stop !)) (look ! 11 refl)) (and-then ! (load ! (from ! (stop !)) (look ! 1 refl)) (and-then ! (load ! (from ! (stop !)) (look ! 13 refl)) (and-then ! (load ! (from ! (stop !)) (look ! 9 refl)) (no-more !))))) (λ r u e is.
-          land ! (from ! (stop !)) (init ! 12 refl (LL.lawful R.the-type R′.the-laws 𝓤 H A W .typed r _ is .0)) $
-          returns ! (look ! 12 refl) $ forget ! 1 refl $ forget ! 2 refl $ forget ! 9 refl $ forget ! 10 refl $ forget ! 11 refl $ forget ! 12 refl $ forget ! 13 refl $
-          move ! (12 ∷ 14 ∷ 11 ∷ 15 ∷ 10 ∷ 16 ∷ 9 ∷ 17 ∷ 1 ∷ 18 ∷ 2 ∷ 19 ∷ 3 ∷ 20 ∷ 4 ∷ 21 ∷ 5 ∷ 22 ∷ 6 ∷ 23 ∷ 13 ∷ 24 ∷ []) $
+          land ! (from ! (stop !)) (init ! 13 refl (LL.lawful R.the-type R′.the-laws 𝓤 H A W .typed r _ is .0)) $
+          returns ! (look ! 13 refl) $ forget ! 2 refl $ forget ! 3 refl $ forget ! 10 refl $ forget ! 11 refl $ forget ! 12 refl $ forget ! 13 refl $ forget ! 14 refl $
+          move ! (13 ∷ 15 ∷ 12 ∷ 16 ∷ 11 ∷ 17 ∷ 10 ∷ 18 ∷ 2 ∷ 19 ∷ 3 ∷ 20 ∷ 4 ∷ 21 ∷ 5 ∷ 22 ∷ 6 ∷ 23 ∷ 7 ∷ 24 ∷ 14 ∷ 25 ∷ []) $
           free1 ! $ free1 ! $ free1 ! $ free1 ! $ free1 ! $ free1 ! $ free1 ! $ free1 ! $ free1 ! $ free1 ! $ free1 ! $ free0 ! $
-          -- [the data's token; what the records own; their token]
-          move ! (2 ∷ 0 ∷ []) $ join ! $ keep ! (0 ∷ []) $
-          by ! (ends 𝓤 H A W lent.ended (lent.clauses 𝓤 H A mem run) passed u r (tt, (tt, (tt, tt))) (LL.makes R.the-type R′.the-plain 𝓤 H A r (u ∷ []) is)
+          -- [what the answer owns; the data's token; what the records own; their token]
+          move ! (3 ∷ 1 ∷ []) $ join ! $ keep ! (1 ∷ 0 ∷ []) $
+          by ! (ends 𝓤 H A W lent.ended (lent.clauses 𝓤 H A mem run) passed u r (tt, (tt, (tt, tt)))
           (factI 𝓤 (r ≡ answer (x .now)) (emp 𝓤) (e ∙ ap batchAnswer (copies-serve bank (y .0) (y .1 .0 .list) (x .now) (z .now) all (f .0))))))
 
       inv-in : (y : Y) → Facts y → ent 𝓤 (⋆ 𝓤 H A (At y)) (Inv (n - y .0))
@@ -249,9 +248,9 @@ module _ {M : Type 1} (𝓤 : URA M) (H : Heap 𝓤) (A : Atoms 𝓤) (W : Given
           elem-back ! P.the-row s (x .now) (y .0) noPiece (mach y ∷ []) (x .ptr .0) (x .ptr .1) there $ shuts-slice ! tt P.the-row s (x .now) (x .ptr .0) (x .ptr .1) $ move ! (1 ∷ []) $ drop ! $
           use0 W (raw (Stored .pre (to-stored y (elem y) (mach y)))) (goes-stored y (elem y) (mach y) fits low (f .1) is-p) $
           -- [what is asked; the records' token; what they own; the copy; i; _6; _7; _8; _9; …]
-          calling stored.ended (stored.clauses 𝓤 H A mem run) ! (fmOf 𝓤 H (W .laws) 𝓣) known-stored (to-stored y (elem y) (mach y)) (λ r. r ≡ record { list = set (y .1 .0 .list) (y .0) (elem y) }) (λ r ws. id⊢ 𝓤 _)
+          calling stored.ended (stored.clauses 𝓤 H A mem run) ! 𝓣 known-stored (to-stored y (elem y) (mach y)) (λ r. r ≡ record { list = set (y .1 .0 .list) (y .0) (elem y) }) (λ r ws. id⊢ 𝓤 _)
           (and-then ! (load ! (from ! (stop !)) (look ! 3 refl)) (and-then ! (load ! (from ! (stop !)) (look ! 4 refl)) (and-then ! (load ! (from ! (stop !)) (look ! 8 refl)) (no-more !)))) (λ r u e is.
-          land ! (from ! (stop !)) (store ! 3 refl (LL.lawful S.the-type S′.the-laws 𝓤 H A W .typed r _ is .0)) $ drop ! $
+          land ! (from ! (stop !)) (store ! 4 refl (LL.lawful S.the-type S′.the-laws 𝓤 H A W .typed r _ is .0)) $ drop ! $ drop ! $
           assigns-last ! (bin ! (load ! (from ! (stop !)) (look ! 3 refl)) (lit ! tt) (record { fits = next-fits })) (from ! (stop !)) (store ! 3 refl (tt, record { fits = next-fits })) $
           forget ! 4 refl $ forget ! 5 refl $ forget ! 6 refl $ forget ! 7 refl $ move ! (2 ∷ 3 ∷ 4 ∷ 5 ∷ 6 ∷ 7 ∷ 1 ∷ 0 ∷ []) $
           by ! (below (n - y .0) (y .0 + 1, (r, u)) (omega (arith, there)) (subst (λ (s : Copied). Copies (y .0 + 1) (s .list) (x .now)) (sym e) (copies-next (y .0) (y .1 .0 .list) (x .now) noPiece there low (f .0)), is))))))
@@ -275,8 +274,8 @@ module _ {M : Type 1} (𝓤 : URA M) (H : Heap 𝓤) (A : Atoms 𝓤) (W : Given
       body : ent 𝓤 (⋆ 𝓤 H A (‵ (froom S′.mir l₄ 0) ∷ ‵ (froom word l₅ 0) ∷ Rest)) (Wp 𝓤 H C Λ En mir′.t-1 (atReturn 𝓤 H En Post))
       body =
           qed W (‵ (froom S′.mir l₄ 0) ∷ ‵ (froom word l₅ 0) ∷ Rest) ∵ exec ! C Λ En mir′.t-1 (atRet En Post) $ use0 W (raw (Blank .pre to-blank)) goes-blank $
-          calling blank-fn.ended (blank-fn.clauses 𝓤 H A mem run) ! (fmOf 𝓤 H (W .laws) 𝓣) known-blank to-blank (λ r. r ≡ blank) (λ r ws. id⊢ 𝓤 _) (no-more !) (λ r u e is.
-          land ! (from ! (stop !)) (init ! 1 refl (LL.lawful S.the-type S′.the-laws 𝓤 H A W .typed r _ is .0)) $ drop ! $
+          calling blank-fn.ended (blank-fn.clauses 𝓤 H A mem run) ! 𝓣 known-blank to-blank (λ r. r ≡ blank) (λ r ws. id⊢ 𝓤 _) (no-more !) (λ r u e is.
+          land ! (from ! (stop !)) (init ! 2 refl (LL.lawful S.the-type S′.the-laws 𝓤 H A W .typed r _ is .0)) $ drop ! $ drop ! $
           assigns ! (of-opd ! (lit ! tt)) (from ! (stop !)) (init ! 1 refl (tt, record { fits = lit< tt })) $
           by ! (loops (0, (r, u)) (subst (λ (s : Copied). Copies 0 (s .list) (x .now)) (sym e) (copies-none (x .now)), is)))
 
@@ -293,21 +292,12 @@ module _ {M : Type 1} (𝓤 : URA M) (H : Heap 𝓤) (A : Atoms 𝓤) (W : Given
         keep ! (18 ∷ 16 ∷ 14 ∷ 12 ∷ 10 ∷ 8 ∷ 5 ∷ 2 ∷ 3 ∷ 0 ∷ 20 ∷ 22 ∷ 24 ∷ 26 ∷ 6 ∷ 27 ∷ 25 ∷ 23 ∷ 21 ∷ 19 ∷ 17 ∷ 15 ∷ 13 ∷ 11 ∷ 9 ∷ 7 ∷ []) $
         by ! (body l₀ l₁ l₂ l₃ l₄ l₅ l₆ l₇ l₈ l₉ l₁₀))))))))))))
 
-module _ {M : Type 1} (𝓤 : URA M) (H : Heap 𝓤) (A : Atoms 𝓤) (W : Given 𝓤 H A) (mem : Memory → SProp 𝓤) (run : Routine → Fun 𝓤) (𝓣 : Tables 𝓤 H) (known-blank : Triple 𝓤 (𝓣 .C blank-def.name) (contractOf 𝓤 H A blank-fn.ended (blank-fn.clauses 𝓤 H A mem run)))
-    (known-stored : Triple 𝓤 (𝓣 .C stored-def.name) (contractOf 𝓤 H A stored.ended (stored.clauses 𝓤 H A mem run))) (known-batch : Triple 𝓤 (𝓣 .C batch-def.name) (contractOf 𝓤 H A batch.ended (batch.clauses 𝓤 H A mem run))) where
-  proved : Meets 𝓤 H A lent.signature (WpFn 𝓤 H (𝓣 .C) (𝓣 .Λ) code.function) (lent.spec 𝓤 H A mem run)
-  unfolding shown
-  proved =
-      meets 𝓤 H A W lent.ended (lent.clauses 𝓤 H A mem run) ((λ κs x f. refl), ((λ κs x f. refl), ((λ κs x f. refl), tt))) code.function 𝓣
-      (λ κs. (LL.vals B.the-type B′.the-laws, (slice-vals, (slice-vals, tt)))) (λ κs. (LL.tells B.the-type B′.the-laws, (shr-slice-tells (named 0) (κs .0) P.the-row, (shr-slice-tells (named 1) (κs .1 .0) u8, tt))))
-      (λ κs qs bounds b g are. via 𝓤 _ (fst∗ 𝓤 _ (emp 𝓤)) (walk 𝓤 H A W mem run (κs .0) (κs .1 .0) (qs .0) (qs .1 .0) (b .0) (b .1 .0) (b .1 .1 .0) (are .0) (are .1 .0 .0 .1) 𝓣 known-blank known-stored known-batch (are .1 .0) (are .1 .1 .0)))
-
 pub update-many-spec : {M : Type 1} → stated.statement M
-unfolding code.routine tablesOf
+unfolding code.routine tablesOf shown
 update-many-spec 𝓤 H 𝓜 𝓖 𝓡 =
-    entered 𝓤 H (tripleOf 𝓤 H (𝓖 .A) lent.signature (lent.spec 𝓤 H (𝓖 .A) (𝓜 .mem) (𝓡 .run)))
-    (tables 𝓤 H 𝓜 𝓡 code.env .C) (tables 𝓤 H 𝓜 𝓡 code.env .Λ) #lent·update-many code.function (code.unfolded 𝓤 H 𝓜 𝓡)
-    (proved 𝓤 H (𝓖 .A) (givenOf 𝓤 H 𝓜 𝓖) (𝓜 .mem) (𝓡 .run) (tablesOf 𝓤 H 𝓜 (tables 𝓤 H 𝓜 𝓡 code.env))
+    stands 𝓤 H 𝓜 𝓖 𝓡 code.env lent.ended (lent.clauses 𝓤 H (𝓖 .A) (𝓜 .mem) (𝓡 .run)) #lent·update-many code.function (code.unfolded 𝓤 H 𝓜 𝓡) ((λ κs x f. refl), ((λ κs x f. refl), ((λ κs x f. refl), tt)))
+    (λ κs. (LL.vals B.the-type B′.the-laws, (slice-vals, (slice-vals, tt)))) (λ κs. (LL.tells B.the-type B′.the-laws, (shr-slice-tells (named 0) (κs .0) P.the-row, (shr-slice-tells (named 1) (κs .1 .0) u8, tt))))
+    (λ κs qs bounds b g are. via 𝓤 _ (fst∗ 𝓤 _ (emp 𝓤)) (walk 𝓤 H (𝓖 .A) (givenOf 𝓤 H 𝓜 𝓖) (𝓜 .mem) (𝓡 .run) (κs .0) (κs .1 .0) (qs .0) (qs .1 .0) (b .0) (b .1 .0) (b .1 .1 .0) (are .0) (are .1 .0 .0 .1) (tablesOf 𝓤 H 𝓜 (tables 𝓤 H 𝓜 𝓡 code.env))
     (cited 𝓤 H (contractOf 𝓤 H (𝓖 .A) blank-fn.ended (blank-fn.clauses 𝓤 H (𝓖 .A) (𝓜 .mem) (𝓡 .run))) 𝓜 𝓡 code.env blank-def.name blank-def.routine code.calls-lent·blank (blank-thm.met 𝓤 H 𝓜 𝓖 𝓡))
     (cited 𝓤 H (contractOf 𝓤 H (𝓖 .A) stored.ended (stored.clauses 𝓤 H (𝓖 .A) (𝓜 .mem) (𝓡 .run))) 𝓜 𝓡 code.env stored-def.name stored-def.routine code.calls-lent·stored (stored-thm.met 𝓤 H 𝓜 𝓖 𝓡))
-    (cited 𝓤 H (contractOf 𝓤 H (𝓖 .A) batch.ended (batch.clauses 𝓤 H (𝓖 .A) (𝓜 .mem) (𝓡 .run))) 𝓜 𝓡 code.env batch-def.name batch-def.routine code.calls-lent·batch (batch-thm.met 𝓤 H 𝓜 𝓖 𝓡)))
+    (cited 𝓤 H (contractOf 𝓤 H (𝓖 .A) batch.ended (batch.clauses 𝓤 H (𝓖 .A) (𝓜 .mem) (𝓡 .run))) 𝓜 𝓡 code.env batch-def.name batch-def.routine code.calls-lent·batch (batch-thm.met 𝓤 H 𝓜 𝓖 𝓡)) (are .1 .0) (are .1 .1 .0)))

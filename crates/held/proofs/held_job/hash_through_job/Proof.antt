@@ -11,14 +11,13 @@ use base.Logic.{SProp, ent, emp, via, fst∗, id⊢}
 use base.Fml.{Lft, Share, fat}
 use prog.Memory.{Memory}
 use prog.Routine.{Routine}
-use prog.Wp.{Heap, Calls, Loops, WpFn}
+use prog.Wp.{Heap, WpFn, Tables}
 use ghost.Atoms.{Atoms}
 use contract.Monad.{Fun, factI}
 use contract.Running.{givenOf, tables, tablesOf}
 use types.Kit.{Given, ‵, raw, ⋆, _$_, _∵_, !, qed, by, move, drop, use1, use2, join, rewrite, fjoin, frame, done}
 use types.Part.{whole, sub, look-in}
 use types.Run.{look, init, forget, stop, fld, from, load, of-opd, and-then, no-more, assigns, land, returns, enter, alloc1, alloc0, params1, pass1, pass0, free1, free0}
-use sound.WpLaws.{FmC, fmOf}
 use denote.Laws.{Is}
 use denote.Plain.{uint-makes}
 use denote.Builtin.{u8}
@@ -29,8 +28,7 @@ use denote.Steps.{nothing, owned}
 use denote.Struct.Laws as LL
 use denote.Triple.Statement.{Contract, Triple}
 use denote.Triple.Entry.{Vals, onEntry}
-use denote.Triple.Spec.{tripleOf}
-use denote.Triple.Table.{entered, cited}
+use denote.Triple.Table.{cited}
 use Rattle.blake2b.specs.State.{hashed}
 use Rattle.hash.specs.declared.HashAnswer.{HashAnswer}
 use Rattle.blake2b.specs.declared.params.Params.{Params}
@@ -43,7 +41,7 @@ use Rattle.held.specs.HeldJob.{madeJob, ranJob, jobHash}
 use Rattle.held.specs.declared.held_job.HashManyJob.{HashManyJob}
 use Rattle.held.specs.declared.held_job.JobAnswer.{JobAnswer}
 use Rattle.held.proofs.Answers.{through}
-use Rattle.held.proofs.Walk.{contractOf, calling, Ends, ends, meets, spelled}
+use Rattle.walks.proofs.Walk.{contractOf, calling, Ends, ends, stands, spelled}
 use Rattle.held.proofs.Ownership.{jobVal, JobOwn, GivenOwns, Token, job-out, whole-block}
 use Rattle.held.proofs.held_job.HashManyJob as T
 use Rattle.held.proofs.held_job.HashManyJob.Laws as T′
@@ -124,34 +122,34 @@ module _ {M : Type 1} (𝓤 : URA M) (H : Heap 𝓤) (A : Atoms 𝓤) (W : Given
     answered e f g k =
         k ∙ (λ i. unlessRefused (e i .number) ((g ∙ ap (λ (c : JobAnswer). jobHash (c .job)) (f ∙ ap (λ (c : JobAnswer). ranJob (c .job)) e)) i)) ∙ through p (whole-block p is-p) (now x)
 
-    module _ (C : Calls 𝓤 H) (Λ : Loops 𝓤 H) (fm : FmC 𝓤 H (W .laws) C) (known-new : Triple 𝓤 (C #new) (New 𝓤 H A mem run)) (known-run : Triple 𝓤 (C #run) (Run 𝓤 H A mem run))
-        (known-to-hash : Triple 𝓤 (C #to-hash) (ToHash 𝓤 H A mem run)) (known-unless : Triple 𝓤 (C #unless) (Unless 𝓤 H A mem run)) where
-      walk : ent 𝓤 (onEntry 𝓤 H A hash′.signature (κ, tt) (q, tt) (p, (x, tt)) at) (WpFn 𝓤 H C Λ code.function (LL.val P.the-type P′.the-laws p ∷ slice-vals x) Post)
+    module _ (𝓣 : Tables 𝓤 H) (known-new : Triple 𝓤 (𝓣 .C #new) (New 𝓤 H A mem run)) (known-run : Triple 𝓤 (𝓣 .C #run) (Run 𝓤 H A mem run))
+        (known-to-hash : Triple 𝓤 (𝓣 .C #to-hash) (ToHash 𝓤 H A mem run)) (known-unless : Triple 𝓤 (𝓣 .C #unless) (Unless 𝓤 H A mem run)) where
+      walk : ent 𝓤 (onEntry 𝓤 H A hash′.signature (κ, tt) (q, tt) (p, (x, tt)) at) (WpFn 𝓤 H (𝓣 .C) (𝓣 .Λ) code.function (LL.val P.the-type P′.the-laws p ∷ slice-vals x) Post)
       walk =
-          qed W (raw (onEntry 𝓤 H A hash′.signature (κ, tt) (q, tt) (p, (x, tt)) at) ∷ []) ∵ enter ! C Λ code.function (LL.val P.the-type P′.the-laws p ∷ slice-vals x) _ $
+          qed W (raw (onEntry 𝓤 H A hash′.signature (κ, tt) (q, tt) (p, (x, tt)) at) ∷ []) ∵ enter ! (𝓣 .C) (𝓣 .Λ) code.function (LL.val P.the-type P′.the-laws p ∷ slice-vals x) _ $
           alloc1 ! (λ l₀. alloc1 ! (λ l₁. alloc1 ! (λ l₂. alloc1 ! (λ l₃. alloc1 ! (λ l₄. alloc1 ! (λ l₅. alloc1 ! (λ l₆. alloc1 ! (λ l₇. alloc1 ! (λ l₈. alloc0 ! $ params1 ! $
           pass1 ! (init ! 14 refl (LL.lawful P.the-type P′.the-laws 𝓤 H A W .typed p _ is-p .0)) $ pass1 ! (init ! 12 refl (shr-slice-lawful 𝓤 H A W (named 0) κ u8 .typed x _ is-x .0)) $ pass0 ! $
           -- [_8; …; _7; …; _6; …; _5; …; _4; …; _3; …; _2; …; _1; …; _0; …; what is had]
           move ! (18 ∷ []) $ use1 W (raw (New 𝓤 H A mem run .pre to-new)) goes-new $
-          calling new.ended (new.clauses 𝓤 H A mem run) ! fm known-new to-new (λ a. a ≡ madeJob p x) (λ a ws. id⊢ 𝓤 _)
+          calling new.ended (new.clauses 𝓤 H A mem run) ! 𝓣 known-new to-new (λ a. a ≡ madeJob p x) (λ a ws. id⊢ 𝓤 _)
           (and-then ! (load ! (from ! (stop !)) (look ! 15 refl)) (and-then ! (load ! (from ! (stop !)) (look ! 13 refl)) (no-more !))) (λ a u e is.
           -- [the result; the token; _8; …]
           land ! (from ! (stop !)) (init ! 12 refl (LL.lawful (J.the-type αᵉ) (J′.the-laws αᵉ) 𝓤 H A W .typed a _ is .0)) $
           rewrite ! 12 (λ (w : Val). ‵ (fat fullShare (J′.mir erased) l₃ 0 w)) (spelled (J.the-type α) (J′.the-laws α) a u is) refl $
           assigns ! (of-opd ! (load ! (from ! (fld ! refl (stop !))) (look-in ! 12 (sub ! 1 refl (whole !))))) (from ! (stop !)) (init ! 8 refl (LL.lawful (T.the-type αᵉ) (T′.the-laws αᵉ) 𝓤 H A W .typed (a .job) _ (LL.owed (J.the-type α) (J′.the-laws α) a _ is .1 .0) .0)) $
           use1 W (‵ (JobOwn 𝓤 H A W κ (a .job))) (job-out 𝓤 H A W κ a u) $ use2 W (raw (Run 𝓤 H A mem run .pre (to-run (a .job)))) (goes-run (a .job)) $
-          calling run′.ended (run′.clauses 𝓤 H A mem run) ! fm known-run (to-run (a .job)) (λ b. b ≡ ranJob (a .job)) (λ b ws. id⊢ 𝓤 _)
+          calling run′.ended (run′.clauses 𝓤 H A mem run) ! 𝓣 known-run (to-run (a .job)) (λ b. b ≡ ranJob (a .job)) (λ b ws. id⊢ 𝓤 _)
           (and-then ! (load ! (from ! (stop !)) (look ! 7 refl)) (no-more !)) (λ b u′ f is′.
           land ! (from ! (stop !)) (init ! 10 refl (LL.lawful (J.the-type αᵉ) (J′.the-laws αᵉ) 𝓤 H A W .typed b _ is′ .0)) $
           rewrite ! 10 (λ (w : Val). ‵ (fat fullShare (J′.mir erased) l₄ 0 w)) (spelled (J.the-type α) (J′.the-laws α) b u′ is′) refl $
           assigns ! (of-opd ! (load ! (from ! (fld ! refl (stop !))) (look-in ! 12 (sub ! 0 refl (whole !))))) (from ! (stop !)) (init ! 6 refl (tt, record { fits = LL.owed (J.the-type α) (J′.the-laws α) a _ is .0 .1 })) $
           assigns ! (of-opd ! (load ! (from ! (fld ! refl (stop !))) (look-in ! 10 (sub ! 1 refl (whole !))))) (from ! (stop !)) (init ! 2 refl (LL.lawful (T.the-type αᵉ) (T′.the-laws αᵉ) 𝓤 H A W .typed (b .job) _ (LL.owed (J.the-type α) (J′.the-laws α) b _ is′ .1 .0) .0)) $
           use1 W (‵ (JobOwn 𝓤 H A W κ (b .job))) (job-out 𝓤 H A W κ b u′) $ use2 W (raw (ToHash 𝓤 H A mem run .pre (to-run (b .job)))) (goes-run (b .job)) $
-          calling to-hash.ended (to-hash.clauses 𝓤 H A mem run) ! fm known-to-hash (to-run (b .job)) (λ h. h ≡ jobHash (b .job)) (λ h ws. id⊢ 𝓤 _)
+          calling to-hash.ended (to-hash.clauses 𝓤 H A mem run) ! 𝓣 known-to-hash (to-run (b .job)) (λ h. h ≡ jobHash (b .job)) (λ h ws. id⊢ 𝓤 _)
           (and-then ! (load ! (from ! (stop !)) (look ! 1 refl)) (no-more !)) (λ h u″ g is″.
           land ! (from ! (stop !)) (init ! 4 refl (LL.lawful G.the-type G′.the-laws 𝓤 H A W .typed h _ is″ .0)) $
           use1 W (raw (Unless 𝓤 H A mem run .pre (to-unless (a .number) h u″))) (goes-unless (a .number) h u″ (LL.owed (J.the-type α) (J′.the-laws α) a _ is .0)) $
-          calling unless.ended (unless.clauses 𝓤 H A mem run) ! fm known-unless (to-unless (a .number) h u″) (λ r. r ≡ unlessRefused (a .number) h) (λ r ws. id⊢ 𝓤 _)
+          calling unless.ended (unless.clauses 𝓤 H A mem run) ! 𝓣 known-unless (to-unless (a .number) h u″) (λ r. r ≡ unlessRefused (a .number) h) (λ r ws. id⊢ 𝓤 _)
           (and-then ! (load ! (from ! (stop !)) (look ! 6 refl)) (and-then ! (load ! (from ! (stop !)) (look ! 4 refl)) (no-more !))) (λ r v k is-r.
           -- [the result; no token; the token; _8; …]
           land ! (from ! (stop !)) (init ! 19 refl (LL.lawful G.the-type G′.the-laws 𝓤 H A W .typed r _ is-r .0)) $ move ! (1 ∷ []) $ drop ! $
@@ -163,16 +161,10 @@ module _ {M : Type 1} (𝓤 : URA M) (H : Heap 𝓤) (A : Atoms 𝓤) (W : Given
 pub hash-through-job-spec : {M : Type 1} → stated.statement M
 unfolding code.routine tablesOf
 hash-through-job-spec 𝓤 H 𝓜 𝓖 𝓡 =
-    let A = 𝓖 .A in
-    let mem = 𝓜 .mem in
-    let run = 𝓡 .run in
-    let W = givenOf 𝓤 H 𝓜 𝓖 in
-    let 𝓣 = tablesOf 𝓤 H 𝓜 (tables 𝓤 H 𝓜 𝓡 code.env) in
-    entered 𝓤 H (tripleOf 𝓤 H A hash′.signature (hash′.spec 𝓤 H A mem run)) (tables 𝓤 H 𝓜 𝓡 code.env .C) (tables 𝓤 H 𝓜 𝓡 code.env .Λ) #hash code.function (code.unfolded 𝓤 H 𝓜 𝓡)
-    (meets 𝓤 H A W hash′.ended (hash′.clauses 𝓤 H A mem run) ((λ κs x f. refl), ((λ κs x f. refl), tt)) code.function 𝓣
+    stands 𝓤 H 𝓜 𝓖 𝓡 code.env hash′.ended (hash′.clauses 𝓤 H (𝓖 .A) (𝓜 .mem) (𝓡 .run)) #hash code.function (code.unfolded 𝓤 H 𝓜 𝓡) ((λ κs x f. refl), ((λ κs x f. refl), tt))
     (λ κs. (LL.vals P.the-type P′.the-laws, (slice-vals, tt))) (λ κs. (LL.tells P.the-type P′.the-laws, (shr-slice-tells (named 0) (κs .0) u8, tt)))
-    (λ κs qs bounds a g are. via 𝓤 _ (fst∗ 𝓤 _ (emp 𝓤)) (walk 𝓤 H A W mem run (κs .0) (qs .0) (a .0) (a .1 .0) (are .0) (are .1 .0) (𝓣 .C) (𝓣 .Λ) (fmOf 𝓤 H (W .laws) 𝓣)
-    (cited 𝓤 H (New 𝓤 H A mem run) 𝓜 𝓡 code.env #new new-def.routine code.calls-held·held-job·HashManyJob·new (new-thm.met 𝓤 H 𝓜 𝓖 𝓡))
-    (cited 𝓤 H (Run 𝓤 H A mem run) 𝓜 𝓡 code.env #run run-def.routine code.calls-held·held-job·HashManyJob·run (run-thm.met 𝓤 H 𝓜 𝓖 𝓡))
-    (cited 𝓤 H (ToHash 𝓤 H A mem run) 𝓜 𝓡 code.env #to-hash to-hash-def.routine code.calls-held·held-job·HashManyJob·to-hash (to-hash-thm.met 𝓤 H 𝓜 𝓖 𝓡))
-    (cited 𝓤 H (Unless 𝓤 H A mem run) 𝓜 𝓡 code.env #unless unless-def.routine code.calls-held·steps·unless-refused (unless-thm.met 𝓤 H 𝓜 𝓖 𝓡)))))
+    (λ κs qs bounds a g are. via 𝓤 _ (fst∗ 𝓤 _ (emp 𝓤)) (walk 𝓤 H (𝓖 .A) (givenOf 𝓤 H 𝓜 𝓖) (𝓜 .mem) (𝓡 .run) (κs .0) (qs .0) (a .0) (a .1 .0) (are .0) (are .1 .0) (tablesOf 𝓤 H 𝓜 (tables 𝓤 H 𝓜 𝓡 code.env))
+    (cited 𝓤 H (New 𝓤 H (𝓖 .A) (𝓜 .mem) (𝓡 .run)) 𝓜 𝓡 code.env #new new-def.routine code.calls-held·held-job·HashManyJob·new (new-thm.met 𝓤 H 𝓜 𝓖 𝓡))
+    (cited 𝓤 H (Run 𝓤 H (𝓖 .A) (𝓜 .mem) (𝓡 .run)) 𝓜 𝓡 code.env #run run-def.routine code.calls-held·held-job·HashManyJob·run (run-thm.met 𝓤 H 𝓜 𝓖 𝓡))
+    (cited 𝓤 H (ToHash 𝓤 H (𝓖 .A) (𝓜 .mem) (𝓡 .run)) 𝓜 𝓡 code.env #to-hash to-hash-def.routine code.calls-held·held-job·HashManyJob·to-hash (to-hash-thm.met 𝓤 H 𝓜 𝓖 𝓡))
+    (cited 𝓤 H (Unless 𝓤 H (𝓖 .A) (𝓜 .mem) (𝓡 .run)) 𝓜 𝓡 code.env #unless unless-def.routine code.calls-held·steps·unless-refused (unless-thm.met 𝓤 H 𝓜 𝓖 𝓡))))

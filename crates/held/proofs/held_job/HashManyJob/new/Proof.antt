@@ -11,14 +11,13 @@ use base.Logic.{SProp, ent, sep, emp, via, fst∗, id⊢}
 use base.Fml.{Lft, Share, fat}
 use prog.Memory.{Memory}
 use prog.Routine.{Routine}
-use prog.Wp.{Heap, Calls, Loops, WpFn}
+use prog.Wp.{Heap, WpFn, Tables}
 use ghost.Atoms.{Atoms, sem}
 use contract.Monad.{Fun, factI}
 use contract.Running.{givenOf, tables, tablesOf}
 use types.Kit.{Given, ‵, raw, _⊛_, _$_, _∵_, !, qed, by, move, drop, use1, split, join, rewrite, frame, done}
 use types.Part.{agg, whole, sub, look-in}
 use types.Run.{look, init, forget, stop, fld, from, load, and-then, no-more, assigns, land, returns, enter, alloc1, alloc0, params1, pass1, pass0, free1, free0}
-use sound.WpLaws.{FmC, fmOf}
 use denote.Laws.{Is}
 use denote.Builtin.{u8}
 use denote.Ref.{RefT, NamedLft, now}
@@ -27,15 +26,14 @@ use denote.Slice.{ShrSlice, slice-vals, shr-slice-tells, shr-slice-lawful}
 use denote.Struct.Laws as LL
 use denote.Triple.Statement.{Contract, Triple}
 use denote.Triple.Entry.{Vals, onEntry}
-use denote.Triple.Spec.{tripleOf}
-use denote.Triple.Table.{entered, cited}
+use denote.Triple.Table.{cited}
 use Rattle.blake2b.specs.declared.params.Params.{Params}
 use Rattle.blake2b.proofs.params.Params as P
 use Rattle.blake2b.proofs.params.Params.Laws as P′
 use Rattle.held.specs.Steps.{madeWork}
 use Rattle.held.specs.HeldJob.{holding, answered, madeJob}
 use Rattle.held.specs.declared.steps.WorkAnswer.{WorkAnswer}
-use Rattle.held.proofs.Walk.{contractOf, calling, Ends, ends, meets, spelled, is-spelled}
+use Rattle.walks.proofs.Walk.{contractOf, calling, Ends, ends, stands, spelled, is-spelled}
 use Rattle.held.proofs.Ownership.{answerVal, InputOwn, StepOwns, Token, is-held, is-answered, beside, lent, together}
 use Rattle.held.proofs.steps.WorkAnswer as R
 use Rattle.held.proofs.steps.WorkAnswer.Laws as R′
@@ -74,20 +72,20 @@ module _ {M : Type 1} (𝓤 : URA M) (H : Heap 𝓤) (A : Atoms 𝓤) (W : Given
   abbrev to : Make 𝓤 H A mem run .Ghost
   to = (((κ, tt), (q, tt), tt, (p, (x, tt)), at), tt)
 
-  module _ (is-p : Is P.the-row p (LL.vals P.the-type P′.the-laws p)) (is-x : Is (ShrSlice (named 0) κ u8) x (slice-vals x)) (C : Calls 𝓤 H) (Λ : Loops 𝓤 H) (fm : FmC 𝓤 H (W .laws) C)
-      (known : Triple 𝓤 (C #make) (Make 𝓤 H A mem run)) where
+  module _ (is-p : Is P.the-row p (LL.vals P.the-type P′.the-laws p)) (is-x : Is (ShrSlice (named 0) κ u8) x (slice-vals x)) (𝓣 : Tables 𝓤 H)
+      (known : Triple 𝓤 (𝓣 .C #make) (Make 𝓤 H A mem run)) where
     asked : ent 𝓤 (onEntry 𝓤 H A new.signature (κ, tt) (q, tt) (p, (x, tt)) at) (sep 𝓤 (Make 𝓤 H A mem run .pre to) (sem 𝓤 H A (InputOwn 𝓤 H A W κ x)))
     asked =
         via 𝓤 _ (beside 𝓤 H A W κ q p x) (lent 𝓤 H A W κ q P.the-type P′.the-plain P′.the-laws p is-p x
         (qed W (Token 𝓤 H A W κ q ∷ ‵ (StepOwns 𝓤 H A W κ q P.the-type P′.the-plain P′.the-laws p is-p x) ∷ []) ∵ join ! $ frame ! $ done !))
 
-    walk : ent 𝓤 (onEntry 𝓤 H A new.signature (κ, tt) (q, tt) (p, (x, tt)) at) (WpFn 𝓤 H C Λ code.function (LL.val P.the-type P′.the-laws p ∷ slice-vals x) Post)
+    walk : ent 𝓤 (onEntry 𝓤 H A new.signature (κ, tt) (q, tt) (p, (x, tt)) at) (WpFn 𝓤 H (𝓣 .C) (𝓣 .Λ) code.function (LL.val P.the-type P′.the-laws p ∷ slice-vals x) Post)
     walk =
-        qed W (raw (onEntry 𝓤 H A new.signature (κ, tt) (q, tt) (p, (x, tt)) at) ∷ []) ∵ enter ! C Λ code.function (LL.val P.the-type P′.the-laws p ∷ slice-vals x) _ $
+        qed W (raw (onEntry 𝓤 H A new.signature (κ, tt) (q, tt) (p, (x, tt)) at) ∷ []) ∵ enter ! (𝓣 .C) (𝓣 .Λ) code.function (LL.val P.the-type P′.the-laws p ∷ slice-vals x) _ $
         alloc1 ! (λ l₀. alloc1 ! (λ l₁. alloc1 ! (λ l₂. alloc1 ! (λ l₃. alloc1 ! (λ l₄. alloc0 ! $ params1 ! $
         pass1 ! (init ! 6 refl (LL.lawful P.the-type P′.the-laws 𝓤 H A W .typed p _ is-p .0)) $ pass1 ! (init ! 4 refl (shr-slice-lawful 𝓤 H A W (named 0) κ u8 .typed x _ is-x .0)) $ pass0 ! $
         move ! (10 ∷ []) $ use1 W (raw (Make 𝓤 H A mem run .pre to) ⊛ ‵ (InputOwn 𝓤 H A W κ x)) asked $ split ! $
-        calling make.ended (make.clauses 𝓤 H A mem run) ! fm known to (λ a. a ≡ madeWork p (now x)) (λ a ws. id⊢ 𝓤 _)
+        calling make.ended (make.clauses 𝓤 H A mem run) ! 𝓣 known to (λ a. a ≡ madeWork p (now x)) (λ a ws. id⊢ 𝓤 _)
         (and-then ! (load ! (from ! (stop !)) (look ! 8 refl)) (and-then ! (load ! (from ! (stop !)) (look ! 6 refl)) (no-more !))) (λ a u e is.
         land ! (from ! (stop !)) (init ! 5 refl (LL.lawful R.the-type R′.the-laws 𝓤 H A W .typed a _ is .0)) $ drop ! $
         rewrite ! 4 (λ (w : Val). ‵ (fat fullShare R′.mir l₃ 0 w)) (spelled R.the-type R′.the-laws a u is) refl $
@@ -107,11 +105,7 @@ module _ {M : Type 1} (𝓤 : URA M) (H : Heap 𝓤) (A : Atoms 𝓤) (W : Given
 pub new-spec : {M : Type 1} → stated.statement M
 unfolding code.routine tablesOf
 new-spec 𝓤 H 𝓜 𝓖 𝓡 =
-    let W = givenOf 𝓤 H 𝓜 𝓖 in
-    let 𝓣 = tablesOf 𝓤 H 𝓜 (tables 𝓤 H 𝓜 𝓡 code.env) in
-    entered 𝓤 H (tripleOf 𝓤 H (𝓖 .A) new.signature (new.spec 𝓤 H (𝓖 .A) (𝓜 .mem) (𝓡 .run)))
-    (tables 𝓤 H 𝓜 𝓡 code.env .C) (tables 𝓤 H 𝓜 𝓡 code.env .Λ) #new code.function (code.unfolded 𝓤 H 𝓜 𝓡)
-    (meets 𝓤 H (𝓖 .A) W new.ended (new.clauses 𝓤 H (𝓖 .A) (𝓜 .mem) (𝓡 .run)) ((λ κs x f. refl), ((λ κs x f. refl), tt)) code.function 𝓣
+    stands 𝓤 H 𝓜 𝓖 𝓡 code.env new.ended (new.clauses 𝓤 H (𝓖 .A) (𝓜 .mem) (𝓡 .run)) #new code.function (code.unfolded 𝓤 H 𝓜 𝓡) ((λ κs x f. refl), ((λ κs x f. refl), tt))
     (λ κs. (LL.vals P.the-type P′.the-laws, (slice-vals, tt))) (λ κs. (LL.tells P.the-type P′.the-laws, (shr-slice-tells (named 0) (κs .0) u8, tt)))
-    (λ κs qs bounds a g are. via 𝓤 _ (fst∗ 𝓤 _ (emp 𝓤)) (walk 𝓤 H (𝓖 .A) W (𝓜 .mem) (𝓡 .run) (κs .0) (qs .0) (a .0) (a .1 .0) (are .0) (are .1 .0) (𝓣 .C) (𝓣 .Λ) (fmOf 𝓤 H (W .laws) 𝓣)
-    (cited 𝓤 H (Make 𝓤 H (𝓖 .A) (𝓜 .mem) (𝓡 .run)) 𝓜 𝓡 code.env #make make-def.routine code.calls-held·steps·make (make-thm.met 𝓤 H 𝓜 𝓖 𝓡)))))
+    (λ κs qs bounds a g are. via 𝓤 _ (fst∗ 𝓤 _ (emp 𝓤)) (walk 𝓤 H (𝓖 .A) (givenOf 𝓤 H 𝓜 𝓖) (𝓜 .mem) (𝓡 .run) (κs .0) (qs .0) (a .0) (a .1 .0) (are .0) (are .1 .0) (tablesOf 𝓤 H 𝓜 (tables 𝓤 H 𝓜 𝓡 code.env))
+    (cited 𝓤 H (Make 𝓤 H (𝓖 .A) (𝓜 .mem) (𝓡 .run)) 𝓜 𝓡 code.env #make make-def.routine code.calls-held·steps·make (make-thm.met 𝓤 H 𝓜 𝓖 𝓡))))

@@ -10,14 +10,13 @@ use base.Logic.{SProp, ent, sep, emp, via, fst∗, id⊢}
 use base.Fml.{Lft, Share, fat}
 use prog.Memory.{Memory}
 use prog.Routine.{Routine}
-use prog.Wp.{Heap, Calls, Loops, WpFn}
+use prog.Wp.{Heap, WpFn, Tables}
 use ghost.Atoms.{Atoms, sem}
 use contract.Monad.{Fun, factI}
 use contract.Running.{givenOf, tables, tablesOf}
 use types.Kit.{Given, ‵, raw, _⊛_, _$_, _∵_, !, qed, by, move, drop, use1, split, join, rewrite, frame, done}
 use types.Part.{agg, whole, sub, look-in}
 use types.Run.{look, init, forget, stop, fld, from, load, of-opd, and-then, no-more, assigns, land, returns, enter, alloc1, alloc0, params1, pass1, pass0, free1, free0}
-use sound.WpLaws.{FmC, fmOf}
 use denote.Array.{array-lawful}
 use denote.Laws.{Is}
 use denote.Plain.{uint-lawful}
@@ -28,15 +27,14 @@ use denote.Slice.{slice-vals}
 use denote.Struct.Laws as LL
 use denote.Triple.Statement.{Contract, Triple}
 use denote.Triple.Entry.{onEntry}
-use denote.Triple.Spec.{tripleOf}
-use denote.Triple.Table.{entered, cited}
+use denote.Triple.Table.{cited}
 use Rattle.job.proofs.work.Work as S
 use Rattle.job.proofs.work.Work.Laws as S′
 use Rattle.held.specs.Steps.{ranWork}
 use Rattle.held.specs.HeldJob.{workOf, holding, answered, ranJob}
 use Rattle.held.specs.declared.steps.WorkAnswer.{WorkAnswer}
 use Rattle.held.specs.declared.held_job.HashManyJob.{HashManyJob}
-use Rattle.held.proofs.Walk.{contractOf, calling, Ends, ends, meets, spelled, is-spelled}
+use Rattle.walks.proofs.Walk.{contractOf, calling, Ends, ends, stands, spelled, is-spelled}
 use Rattle.held.proofs.Ownership.{jobVal, answerVal, InputOwn, StepOwns, Token, is-work, is-held, is-answered, inside, lent, together}
 use Rattle.held.proofs.steps.WorkAnswer as R
 use Rattle.held.proofs.steps.WorkAnswer.Laws as R′
@@ -75,17 +73,17 @@ module _ {M : Type 1} (𝓤 : URA M) (H : Heap 𝓤) (A : Atoms 𝓤) (W : Given
   abbrev to : Step 𝓤 H A mem run .Ghost
   to = (((κ, tt), (q, tt), tt, (workOf j, (j .input, tt)), (LL.vals S.the-type S′.the-laws (workOf j), (slice-vals (j .input), tt))), tt)
 
-  module _ (is : Is (T.the-row α) j (v ∷ [])) (C : Calls 𝓤 H) (Λ : Loops 𝓤 H) (fm : FmC 𝓤 H (W .laws) C) (known : Triple 𝓤 (C #step) (Step 𝓤 H A mem run)) where
+  module _ (is : Is (T.the-row α) j (v ∷ [])) (𝓣 : Tables 𝓤 H) (known : Triple 𝓤 (𝓣 .C #step) (Step 𝓤 H A mem run)) where
     asked : ent 𝓤 (onEntry 𝓤 H A run′.signature (κ, tt) (q, tt) (j, tt) (v ∷ [], tt)) (sep 𝓤 (Step 𝓤 H A mem run .pre to) (sem 𝓤 H A (InputOwn 𝓤 H A W κ (j .input))))
     asked =
         via 𝓤 _ (inside 𝓤 H A W κ q j) (lent 𝓤 H A W κ q S.the-type S′.the-plain S′.the-laws (workOf j) (is-work α j is) (j .input)
         (qed W (Token 𝓤 H A W κ q ∷ ‵ (StepOwns 𝓤 H A W κ q S.the-type S′.the-plain S′.the-laws (workOf j) (is-work α j is) (j .input)) ∷ []) ∵ join ! $ frame ! $ done !))
 
-    walk : ent 𝓤 (onEntry 𝓤 H A run′.signature (κ, tt) (q, tt) (j, tt) (v ∷ [], tt)) (WpFn 𝓤 H C Λ code.function (v ∷ []) Post)
+    walk : ent 𝓤 (onEntry 𝓤 H A run′.signature (κ, tt) (q, tt) (j, tt) (v ∷ [], tt)) (WpFn 𝓤 H (𝓣 .C) (𝓣 .Λ) code.function (v ∷ []) Post)
     walk =
         let o = LL.owed (T.the-type α) (T′.the-laws α) j _ is in
         let is-x = o .1 .1 .1 .1 .0 in
-        qed W (raw (onEntry 𝓤 H A run′.signature (κ, tt) (q, tt) (j, tt) (v ∷ [], tt)) ∷ []) ∵ enter ! C Λ code.function (v ∷ []) _ $
+        qed W (raw (onEntry 𝓤 H A run′.signature (κ, tt) (q, tt) (j, tt) (v ∷ [], tt)) ∷ []) ∵ enter ! (𝓣 .C) (𝓣 .Λ) code.function (v ∷ []) _ $
         alloc1 ! (λ l₀. alloc1 ! (λ l₁. alloc1 ! (λ l₂. alloc1 ! (λ l₃. alloc1 ! (λ l₄. alloc1 ! (λ l₅. alloc1 ! (λ l₆. alloc1 ! (λ l₇. alloc1 ! (λ l₈. alloc1 ! (λ l₉. alloc1 ! (λ l₁₀. alloc1 ! (λ l₁₁. alloc0 ! $ params1 ! $
         pass1 ! (init ! 20 refl (LL.lawful (T.the-type α) (T′.the-laws α) 𝓤 H A W .typed j _ is .0)) $ pass0 ! $
         -- [_11; …; _10; …; _9; …; _8; …; _7; …; _6; …; _5; …; _4; …; _3; …; _2; …; _1; …; _0; …; what is had]
@@ -98,7 +96,7 @@ module _ {M : Type 1} (𝓤 : URA M) (H : Heap 𝓤) (A : Atoms 𝓤) (W : Given
         (and-then ! (load ! (from ! (stop !)) (look ! 6 refl)) (no-more !))))))) (from ! (stop !)) (init ! 18 refl (LL.lawful S.the-type S′.the-laws 𝓤 H A W .typed (workOf j) _ (is-work α j is) .0)) $
         assigns ! (of-opd ! (load ! (from ! (fld ! refl (stop !))) (look-in ! 20 (sub ! 4 refl (whole !))))) (from ! (stop !)) (init ! 4 refl (tt, (tt, (record { fits = is-x .0 .1 .0 }, tt)))) $
         move ! (24 ∷ []) $ use1 W (raw (Step 𝓤 H A mem run .pre to) ⊛ ‵ (InputOwn 𝓤 H A W κ (j .input))) asked $ split ! $
-        calling step.ended (step.clauses 𝓤 H A mem run) ! fm known to (λ a. a ≡ ranWork (workOf j) (now (j .input))) (λ a ws. id⊢ 𝓤 _)
+        calling step.ended (step.clauses 𝓤 H A mem run) ! 𝓣 known to (λ a. a ≡ ranWork (workOf j) (now (j .input))) (λ a ws. id⊢ 𝓤 _)
         (and-then ! (load ! (from ! (stop !)) (look ! 20 refl)) (and-then ! (load ! (from ! (stop !)) (look ! 6 refl)) (no-more !))) (λ a u e is-a.
         land ! (from ! (stop !)) (init ! 19 refl (LL.lawful R.the-type R′.the-laws 𝓤 H A W .typed a _ is-a .0)) $ drop ! $
         rewrite ! 18 (λ (w : Val). ‵ (fat fullShare R′.mir l₃ 0 w)) (spelled R.the-type R′.the-laws a u is-a) refl $
@@ -120,11 +118,7 @@ module _ {M : Type 1} (𝓤 : URA M) (H : Heap 𝓤) (A : Atoms 𝓤) (W : Given
 pub run-spec : {M : Type 1} → stated.statement M
 unfolding code.routine tablesOf
 run-spec 𝓤 H 𝓜 𝓖 𝓡 =
-    let W = givenOf 𝓤 H 𝓜 𝓖 in
-    let 𝓣 = tablesOf 𝓤 H 𝓜 (tables 𝓤 H 𝓜 𝓡 code.env) in
-    entered 𝓤 H (tripleOf 𝓤 H (𝓖 .A) run′.signature (run′.spec 𝓤 H (𝓖 .A) (𝓜 .mem) (𝓡 .run)))
-    (tables 𝓤 H 𝓜 𝓡 code.env .C) (tables 𝓤 H 𝓜 𝓡 code.env .Λ) #run code.function (code.unfolded 𝓤 H 𝓜 𝓡)
-    (meets 𝓤 H (𝓖 .A) W run′.ended (run′.clauses 𝓤 H (𝓖 .A) (𝓜 .mem) (𝓡 .run)) ((λ κs x f. refl), tt) code.function 𝓣
+    stands 𝓤 H 𝓜 𝓖 𝓡 code.env run′.ended (run′.clauses 𝓤 H (𝓖 .A) (𝓜 .mem) (𝓡 .run)) #run code.function (code.unfolded 𝓤 H 𝓜 𝓡) ((λ κs x f. refl), tt)
     (λ κs. (LL.vals (T.the-type (namedLft 1 0 tt κs)) (T′.the-laws (namedLft 1 0 tt κs)), tt)) (λ κs. (LL.tells (T.the-type (namedLft 1 0 tt κs)) (T′.the-laws (namedLft 1 0 tt κs)), tt))
-    (λ κs qs bounds a g are. via 𝓤 _ (fst∗ 𝓤 _ (emp 𝓤)) (walk 𝓤 H (𝓖 .A) W (𝓜 .mem) (𝓡 .run) (κs .0) (qs .0) (a .0) (are .0) (𝓣 .C) (𝓣 .Λ) (fmOf 𝓤 H (W .laws) 𝓣)
-    (cited 𝓤 H (Step 𝓤 H (𝓖 .A) (𝓜 .mem) (𝓡 .run)) 𝓜 𝓡 code.env #step step-def.routine code.calls-held·steps·run (step-thm.met 𝓤 H 𝓜 𝓖 𝓡)))))
+    (λ κs qs bounds a g are. via 𝓤 _ (fst∗ 𝓤 _ (emp 𝓤)) (walk 𝓤 H (𝓖 .A) (givenOf 𝓤 H 𝓜 𝓖) (𝓜 .mem) (𝓡 .run) (κs .0) (qs .0) (a .0) (are .0) (tablesOf 𝓤 H 𝓜 (tables 𝓤 H 𝓜 𝓡 code.env))
+    (cited 𝓤 H (Step 𝓤 H (𝓖 .A) (𝓜 .mem) (𝓡 .run)) 𝓜 𝓡 code.env #step step-def.routine code.calls-held·steps·run (step-thm.met 𝓤 H 𝓜 𝓖 𝓡))))

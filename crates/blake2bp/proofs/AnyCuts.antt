@@ -8,23 +8,21 @@ use native.Mathlib.Omega.{arith}
 use borrow.Author.Tests.{le-leb}
 use lib.Dec.{leb}
 use lib.ListN.{length, length-append}
-use Rattle.laws.specs.Buffer.{joined}
+use Rattle.laws.specs.Buffer.{Held, joined}
 use Rattle.laws.proofs.Buffers.{Sound}
 use Rattle.laws.proofs.TwoRows.{pushed-nothing}
 use Rattle.numbers.specs.Numbers.{accepted, limit}
 use Rattle.hash.specs.Hash.{hashOf}
+use Rattle.leaves.specs.declared.leaves.Leaf.{Leaf}
 use Rattle.blake2bp.specs.State.{core, holding, machine, pushed, total, keyRow, stateInRange, keyBytes, fresh, reached, updated, finalized, counted, digest}
 use Rattle.blake2bp.specs.declared.params.Params.{Params}
 use Rattle.blake2bp.specs.declared.state.State.{State}
 use Rattle.blake2bp.specs.declared.state.StateAnswer.{StateAnswer}
 use Rattle.blake2bp.proofs.Cleaned.{Good}
 use Rattle.blake2bp.proofs.Pieces.{total-fresh, sound-fresh, range-fresh, total-pieces, sound-pieces, range-pieces, digest-of-pieces}
+use Rattle.blake2bp.proofs.Ranges.{in-range}
 use Rattle.blake2bp.proofs.Setters.{digest-asked, key-short}
 use Rattle.blake2bp.proofs.States.{lawful}
-
--- no bytes change nothing
-pub empty-changes-nothing : (s : State) → Sound machine (core s) → pushed s [] ≡ s
-empty-changes-nothing s sound = ap (holding s) (pushed-nothing machine lawful (core s) sound)
 
 -- the state that an update hands back
 abbrev pub next : State → List ℕ → State
@@ -35,6 +33,13 @@ pub updated-pushed : (s : State) (a : List ℕ) → stateInRange s ≡ true → 
 unfolding updated
 updated-pushed s a good within = rw (good, le-leb (total s + length a) limit within)
 
+-- an update of no bytes changes nothing
+pub empty-changes-nothing : (s : State) → Sound machine (core s) → stateInRange s ≡ true → updated s [] ≡ record { number = accepted; state = s }
+empty-changes-nothing s sound good =
+    let r = in-range (s .«hash_length») (s .«buf_len») (s .count .0) (s .«is_keyed») good in
+    updated-pushed s [] good (omega (arith, r .within)) ∙ ap (λ (h : Held (List Leaf)). record { number = accepted; state = holding s h }) (pushed-nothing machine lawful (core s) sound)
+
+-- so do updates of any pieces
 next-is-pushed : (s : State) (ps : List (List ℕ)) → Sound machine (core s) → stateInRange s ≡ true → total s + length (joined ps) ≤ limit → foldl next s ps ≡ foldl pushed s ps
 unfolding joined
 next-is-pushed s [] sound good within = refl
@@ -54,7 +59,7 @@ module _ (p : Params) (good : Good p) where
   short = key-short p (good .ranged)
 
   module _ (ps : List (List ℕ)) (within : keyBytes p + length (joined ps) ≤ limit) where
-    reached-by-updates : foldl next (fresh p) ps ≡ reached p ps
+    pub reached-by-updates : foldl next (fresh p) ps ≡ reached p ps
     reached-by-updates =
         next-is-pushed (fresh p) ps (sound-fresh p (good .whole) short) (range-fresh p (good .whole) short (digest-asked p (good .ranged))) (rw (total-fresh p (good .whole) short) within)
 

@@ -1,4 +1,4 @@
--- Two answers that meet a public promise are equal, for every public function: BLAKE2b's one law, cited of the contract itself. A weaker
+-- Two answers that meet a public promise are equal, for every public function: one law, cited of the contract itself. A weaker
 -- promise would be refused here. Assumes nothing.
 use mathlib.Core.Path.{_≡_}
 use Rattle.hash.proofs.Unique.{unique}

@@ -53,7 +53,7 @@ pending s = buffer.pending (core s)
 abbrev pub moved : State → List ℕ → ℕ → State
 moved s all k = holding s (buffer.moved machine (core s) all k)
 
--- the state s once the bytes a came: they are stored while they fit; else all rows go that leave each leaf a byte
+-- the state s once the bytes a came: where some wait and all fit, they are stored; else all rows go that leave each leaf a byte
 abbrev pub pushed : State → List ℕ → State
 pushed s a = holding s (buffer.pushed machine (core s) a)
 

@@ -51,7 +51,7 @@ fn answer(number: u8, params: Params) -> ParamsAnswer
 }
 
 impl Params {
-    pub const OUTBYTES: usize = 64;
+    pub const OUTBYTES: usize = hash::OUTBYTES;
 
     pub const KEYBYTES: usize = 64;
 
@@ -64,7 +64,7 @@ impl Params {
     {
         let key = zero_key();
         Params {
-            hash_length: 64,
+            hash_length: Params::OUTBYTES as u8,
             key_length: 0,
             key,
         }

@@ -1,5 +1,5 @@
 // The state of a hash that takes its message piece by piece, and the hash of a whole message.
-// The buffer holds two rows of blocks: a row goes once each leaf is known to get more.
+// The buffer holds two rows of blocks: a row goes only once each leaf is known to get more.
 use crate::params::Params;
 use guts::offset_slice;
 use guts::padded;
@@ -108,7 +108,7 @@ fn key_row(block: [u8; 128]) -> [u8; BUFFER]
 {
     let mut buf = zero_buffer();
     let mut i: usize = 0;
-    while i < DEGREE {
+    while i < Params::DEGREE {
         store(&mut buf, i * Params::BLOCKBYTES, &block);
         i += 1;
     }

@@ -56,11 +56,7 @@ impl Run {
     }
 
     fn all(&mut self, cases: u64) -> Result<(), Mismatch> {
-        for part in sweep::parts() {
-            self.script(|script| part.walk(script))?;
-        }
-        self.progress("every cut of every border's length");
-        let scripts = cases.saturating_add(CASES_OF_A_SCRIPT - 1) / CASES_OF_A_SCRIPT;
+        let scripts = (cases + CASES_OF_A_SCRIPT - 1) / CASES_OF_A_SCRIPT;
         for number in 0..scripts {
             let count = CASES_OF_A_SCRIPT.min(cases - number * CASES_OF_A_SCRIPT);
             self.script(|script| (0..count).for_each(|_| cases::draw(script)))?;
@@ -68,6 +64,10 @@ impl Run {
                 self.progress(&format!("case {}", number * CASES_OF_A_SCRIPT + count));
             }
         }
+        for part in sweep::parts() {
+            self.script(|script| part.walk(script))?;
+        }
+        self.progress("every cut of every border's length, and all lengths of digests and keys");
         Ok(())
     }
 }

@@ -38,7 +38,12 @@ impl Bank {
     }
 
     // What a call on an open slot is answered; or the refusal, as the call answers it.
-    fn at(&mut self, slot: u64, call: impl FnOnce(&mut Stream) -> String, refused: impl FnOnce(u8) -> String) -> String {
+    fn at(
+        &mut self,
+        slot: u64,
+        call: impl FnOnce(&mut Stream) -> String,
+        refused: impl FnOnce(u8) -> String,
+    ) -> String {
         match self.fault(slot) {
             rules::ACCEPTED => call(self.slots[slot as usize].as_mut().expect("an open slot")),
             number => refused(number),

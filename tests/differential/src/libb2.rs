@@ -101,13 +101,7 @@ pub fn blake2bp_digest(hash_length: usize, key: &[u8], message: &[u8]) -> Vec<u8
 }
 
 // A state that holds two blocks compresses the first when a byte more comes, after it has counted the block.
-pub fn compress(
-    block: &[u8; BLOCK],
-    words: &[u64; 8],
-    count: u128,
-    last_block: bool,
-    last_node: bool,
-) -> [u64; 8] {
+pub fn compress(block: &[u8; BLOCK], words: &[u64; 8], count: u128, last_block: bool, last_node: bool) -> [u64; 8] {
     let before = count.wrapping_sub(BLOCK as u128);
     let flag = |is_set: bool| if is_set { u64::MAX } else { 0 };
     let mut state = State {

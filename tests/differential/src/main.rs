@@ -82,18 +82,16 @@ fn main() {
         exit(1);
     }
     println!("the exported compression agrees with libb2's in {cases} cases");
-    let mut run = Run {
-        command: args[4..].to_vec(),
-        seeds: Dice::new(seed),
-        tally: Tally::default(),
-        start: Instant::now(),
-    };
+    let mut run =
+        Run { command: args[4..].to_vec(), seeds: Dice::new(seed), tally: Tally::default(), start: Instant::now() };
     if let Err(mismatch) = run.all(cases) {
         mismatch.report(out);
         exit(1);
     }
-    run.tally.print();
-    let (answers, second) = (run.tally.answers(), run.tally.second);
+    let tally = run.tally;
+    tally.print();
+    let (answers, digests, refusals) = (tally.answers(), tally.digests, tally.refusals());
     println!("{} comparisons, no mismatch: {answers} answers, {cases} compressions", answers + cases);
-    println!("libb2 gave the crate's digest in the {second} cases that it was asked for too");
+    println!("of the answers {digests} are digests and {refusals} refusals");
+    println!("libb2 gave the crate's digest in the {} cases that it was asked for too", tally.second);
 }

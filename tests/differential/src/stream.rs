@@ -13,11 +13,7 @@ pub struct Stream {
 
 impl Stream {
     pub fn open(setting: &Setting) -> Self {
-        Stream {
-            state: setting.params().to_state(),
-            setting: setting.clone(),
-            bytes: Vec::new(),
-        }
+        Stream { state: setting.params().to_state(), setting: setting.clone(), bytes: Vec::new() }
     }
 
     // What the state itself takes, by whichever call.

@@ -1,10 +1,11 @@
-//! How many answers were compared, by call and by number.
+//! How many answers were compared, by call and by number, and how many of them are digests.
 
 use std::collections::BTreeMap;
 
 #[derive(Default)]
 pub struct Tally {
     calls: BTreeMap<String, [u64; 15]>,
+    pub digests: u64,
     // Digests of the crate that libb2 was asked for too.
     pub second: u64,
 }
@@ -27,6 +28,9 @@ fn number_of(answer: &str) -> usize {
 impl Tally {
     pub fn add(&mut self, line: &str, answer: &str) {
         let (call, number) = (call_of(line), number_of(answer));
+        // The calls on a digest show one that was made before.
+        let is_digest = number == 0 && answer.contains(" bytes=") && !call.starts_with("digest ");
+        self.digests += u64::from(is_digest);
         match self.calls.get_mut(call) {
             Some(numbers) => numbers[number] += 1,
             None => {
@@ -39,6 +43,10 @@ impl Tally {
 
     pub fn answers(&self) -> u64 {
         self.calls.values().flatten().sum()
+    }
+
+    pub fn refusals(&self) -> u64 {
+        self.calls.values().flat_map(|numbers| &numbers[1..]).sum()
     }
 
     pub fn print(&self) {

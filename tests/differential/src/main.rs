@@ -27,6 +27,7 @@ mod tally;
 
 use dice::Dice;
 use mismatch::Mismatch;
+use replay::Program;
 use script::Script;
 use std::process::exit;
 use std::time::Instant;
@@ -37,7 +38,7 @@ const CASES_OF_A_SCRIPT: u64 = 500;
 const SCRIPTS_OF_A_LINE: u64 = 20;
 
 struct Run {
-    command: Vec<String>,
+    program: Program,
     seeds: Dice,
     tally: Tally,
     start: Instant,
@@ -45,7 +46,7 @@ struct Run {
 
 impl Run {
     fn script(&mut self, fill: impl FnOnce(&mut Script)) -> Result<(), Mismatch> {
-        let mut script = Script::start(&self.command, self.seeds.word());
+        let mut script = Script::start(&self.program, self.seeds.word());
         fill(&mut script);
         script.finish(&mut self.tally)
     }
@@ -82,8 +83,8 @@ fn main() {
         exit(1);
     }
     println!("the exported compression agrees with libb2's in {cases} cases");
-    let mut run =
-        Run { command: args[4..].to_vec(), seeds: Dice::new(seed), tally: Tally::default(), start: Instant::now() };
+    let program = Program::new(&args[4..], out);
+    let mut run = Run { program, seeds: Dice::new(seed), tally: Tally::default(), start: Instant::now() };
     if let Err(mismatch) = run.all(cases) {
         mismatch.report(out);
         exit(1);

@@ -1,7 +1,7 @@
 //! Where replay_main and the model answer differently, and a small script that shows it.
 
 use crate::model::Model;
-use crate::replay::answers;
+use crate::replay::Program;
 use std::fs;
 
 // Answers that are missing, or too many, are a difference too.
@@ -16,13 +16,13 @@ fn modelled(lines: &[String]) -> Vec<String> {
 }
 
 // The lines up to the first that is answered differently, where there is one.
-fn shown(command: &[String], lines: &[String]) -> Option<Vec<String>> {
-    let place = first_difference(&modelled(lines), &answers(command, lines))?;
+fn shown(program: &Program, lines: &[String]) -> Option<Vec<String>> {
+    let place = first_difference(&modelled(lines), &program.answers(lines))?;
     Some(lines[..lines.len().min(place + 1)].to_vec())
 }
 
 // Parts are left out, at first large ones, as long as a difference is left.
-fn shortened(command: &[String], lines: Vec<String>) -> Vec<String> {
+fn shortened(program: &Program, lines: Vec<String>) -> Vec<String> {
     let mut lines = lines;
     let mut size = lines.len() / 2;
     while size > 0 {
@@ -30,7 +30,7 @@ fn shortened(command: &[String], lines: Vec<String>) -> Vec<String> {
         while start < lines.len() {
             let end = lines.len().min(start + size);
             let without = [&lines[..start], &lines[end..]].concat();
-            match shown(command, &without) {
+            match shown(program, &without) {
                 Some(shorter) => lines = shorter,
                 None => start = end,
             }
@@ -49,17 +49,16 @@ pub struct Mismatch {
 }
 
 impl Mismatch {
-    pub fn at(place: usize, command: &[String], lines: Vec<String>) -> Self {
+    pub fn at(place: usize, program: &Program, lines: Vec<String>) -> Self {
         let first = lines[..lines.len().min(place + 1)].to_vec();
-        let script = shortened(command, shown(command, &first).unwrap_or(first));
+        let script = shortened(program, shown(program, &first).unwrap_or(first));
         let last = |answers: Vec<String>| answers.get(script.len() - 1).cloned().unwrap_or_default();
-        let (expected, got) = (last(modelled(&script)), last(answers(command, &script)));
+        let (expected, got) = (last(modelled(&script)), last(program.answers(&script)));
         Mismatch { line: place + 1, script, expected, got }
     }
 
     pub fn report(&self, folder: &str) {
         let path = format!("{folder}/mismatch.script");
-        fs::create_dir_all(folder).expect("the folder can't be made");
         fs::write(&path, self.script.join("\n") + "\n").expect("the script can't be written");
         println!("MISMATCH at line {} of the drawn script", self.line);
         println!("a script that shows it, {} lines, is in {path}; its end:", self.script.len());

@@ -3,25 +3,25 @@
 use crate::dice::Dice;
 use crate::mismatch::{first_difference, Mismatch};
 use crate::model::Model;
-use crate::replay::Replay;
+use crate::replay::{Program, Replay};
 use crate::tally::Tally;
 
 pub struct Script<'a> {
     pub dice: Dice,
     pub model: Model,
-    command: &'a [String],
-    replay: Replay,
+    program: &'a Program,
+    replay: Replay<'a>,
     lines: Vec<String>,
     expected: Vec<String>,
 }
 
 impl<'a> Script<'a> {
-    pub fn start(command: &'a [String], seed: u64) -> Self {
+    pub fn start(program: &'a Program, seed: u64) -> Self {
         Script {
             dice: Dice::new(seed),
             model: Model::new(),
-            command,
-            replay: Replay::start(command),
+            program,
+            replay: program.start(),
             lines: Vec::new(),
             expected: Vec::new(),
         }
@@ -41,7 +41,7 @@ impl<'a> Script<'a> {
     pub fn finish(self, tally: &mut Tally) -> Result<(), Mismatch> {
         let got = self.replay.finish();
         if let Some(place) = first_difference(&self.expected, &got) {
-            return Err(Mismatch::at(place, self.command, self.lines));
+            return Err(Mismatch::at(place, self.program, self.lines));
         }
         for (line, answer) in self.lines.iter().zip(&self.expected) {
             tally.add(line, answer);

@@ -14,6 +14,15 @@ enum Job {
     Finished(Hash),
 }
 
+// A job that keeps its input, made, run and asked.
+pub fn held(setting: &Setting, input: &[u8], second: &mut Second) -> String {
+    let mut job = HashManyJob::new(&setting.params(), input);
+    hash_many([&mut job]);
+    let hash = job.to_hash();
+    second.blake2b(&hash, setting, input);
+    answer::digest(&hash)
+}
+
 pub struct Jobs {
     places: Vec<Job>,
 }

@@ -5,7 +5,7 @@
 use crate::answer;
 use crate::bank::{Bank, Piece};
 use crate::digests::{self, Digest};
-use crate::jobs::Jobs;
+use crate::jobs::{self, Jobs};
 use crate::message::bytes_of;
 use crate::parallel::{self, of_tree, Tree, TreeSetting};
 use crate::rules;
@@ -163,6 +163,7 @@ impl Model {
                 self.jobs.make(place, &self.setting, number(start), number(length), &bytes_of(m))
             }
             ["job", "run", used, m] => self.jobs.run(number(used), &bytes_of(m), &mut self.second),
+            ["job", "held", m] => jobs::held(&self.setting, &bytes_of(m), &mut self.second),
             ["job", "hash", place] => self.jobs.hash(number(place) as usize),
 
             ["bank", "new"] => {
@@ -181,7 +182,7 @@ impl Model {
                 let [slot, start, length] = [slot, start, length].map(|text| number(text));
                 self.set_piece(number(place) as usize, Piece { slot, start, length })
             }
-            ["bank", "update_many", used, m] => self.bank.update_many(&self.pieces, number(used), &bytes_of(m)),
+            ["bank", "update_many" | "update_lent", used, m] => self.bank.update_many(&self.pieces, number(used), &bytes_of(m)),
 
             ["bp", "params", "new"] => {
                 self.tree_setting = TreeSetting::new();

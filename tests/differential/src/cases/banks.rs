@@ -41,7 +41,9 @@ fn batch(script: &mut Script, data_length: usize) {
     }
     let used = used(&mut script.dice, count);
     let data = message(&mut script.dice, data_length);
-    if !script.say(format!("bank update_many {used} {data}")) || script.dice.one_in(3) {
+    // The records as an array, or lent.
+    let form = script.dice.one_of(&["update_many", "update_lent"]);
+    if !script.say(format!("bank {form} {used} {data}")) || script.dice.one_in(3) {
         show(script);
     }
 }

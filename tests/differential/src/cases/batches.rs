@@ -21,6 +21,10 @@ pub fn jobs(script: &mut Script) {
         }
         let (start, length) = range(&mut script.dice, data_length);
         script.say(format!("job new {place} {start} {length} {data}"));
+        if script.dice.one_in(8) {
+            let input = super::any_message(&mut script.dice);
+            script.say(format!("job held {input}"));
+        }
     }
     if script.dice.one_in(3) {
         show(script, count);

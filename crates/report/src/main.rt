@@ -36,7 +36,7 @@ fn read_some(reading: Reading, space: &mut [u8]) -> Reading {
 }
 
 // A proved loop has to end, and nothing says that the input does: no run has so many turns.
-fn read_all(space: &mut [u8]) -> Reading {
+fn read_turns(space: &mut [u8]) -> Reading {
     let report = Report::new();
     let mut reading = Reading { report, more: true };
     let mut turns = u64::MAX;
@@ -48,18 +48,27 @@ fn read_all(space: &mut [u8]) -> Reading {
     reading
 }
 
+// An input that has not ended then is one that can't be read.
+fn read_all(space: &mut [u8]) -> Report {
+    let reading = read_turns(space);
+    let report = reading.report;
+    if reading.more {
+        return report.fail();
+    }
+    report
+}
+
 // The front of lent bytes: nothing where they are fewer.
 fn front<'a>(bytes: &'a [u8], n: usize) -> &'a [u8] {
     if n <= bytes.len() {
-        return &bytes[..n];
+        return &bytes[0..n];
     }
     &bytes[..0]
 }
 
 fn main() {
     let mut space = io::large_buffer();
-    let reading = read_all(&mut space);
-    let report = reading.report;
+    let report = read_all(&mut space);
     let mut text = [0u8; Report::LONGEST];
     let answer = report.text(&mut text);
     io::write_all(STDOUT_FILENO, front(&text, answer.length));

@@ -1,7 +1,7 @@
 -- Document 01's example, computed: the report of abc, with the digest of RFC 7693's appendix A.
 -- Assumes nothing.
 use mathlib.Core.Path.{_≡_, refl}
-use mathlib.Core.List.{[], _∷_, flatMap}
+use mathlib.Core.List.{flatMap}
 use Rattle.definitions.specs.Words.{rotr, pad}
 use Rattle.definitions.specs.Compress.{SIGMA, G, round, roundsTo, ones, F}
 use Rattle.definitions.specs.Hash.{start, words, parameterBlock, keyed, calls, compress, stateBytes, untruncated, hash}

@@ -10,11 +10,11 @@ use lib.Dec.{leb, eqb}
 use lib.ListN.{length, take, length-append}
 use Rattle.definitions.specs.Words.{pad}
 use Rattle.definitions.specs.Family.{BLAKE2b}
-use Rattle.definitions.specs.Hash.{sequential, parameterBlock, words, start, keyed, calls, compress, stateBytes, untruncated, hash, blake2}
+use Rattle.definitions.specs.Hash.{sequential, parameterBlock, start, keyed, calls, compress, stateBytes, untruncated, hash, blake2}
 use Rattle.laws.specs.Chain.{zeros}
 use Rattle.numbers.specs.Numbers.{accepted, total-over, limit}
 use Rattle.hash.specs.Hash.{digestOf}
-use Rattle.blake2b.specs.Params.{defaults, asked, front, keyOf}
+use Rattle.blake2b.specs.Params.{defaults, asked, front}
 use Rattle.blake2b.specs.State.{pushed, stateInRange, fresh, updated, finalized, counted, closedDigest}
 use Rattle.numbers.specs.Row.{Answer}
 use Rattle.numbers.specs.Row as row

@@ -2,17 +2,17 @@
 -- Assumes nothing.
 use mathlib.Core.Path.{_≡_, refl, sym, ap, subst, _∙_}
 use mathlib.Core.Bool.{Bool, true, false, not}
-use mathlib.Core.List.{List, [], _++_}
-use Prim.Native.Nat.{ℕ, _+_, _*_, _<_, _≤_}
+use mathlib.Core.List.{List, _++_}
+use Prim.Native.Nat.{ℕ, _+_, _<_, _≤_}
 use native.Mathlib.Nat.{zero-add}
 use native.Mathlib.Omega.{arith}
 use borrow.Author.Tests.{not-true, not-false, le-leb, lt-leb}
-use lib.Dec.{leb, eqb}
+use lib.Dec.{eqb}
 use lib.ListN.{length, take, drop}
-use lib.Seq.{paste, take-all, take-append-seam, length-take-le}
+use lib.Seq.{paste, take-all, take-append-seam}
 use Rattle.laws.specs.Buffer.{over}
 use Rattle.numbers.specs.Numbers.{accepted, output-short, bad-record}
-use Rattle.hash.specs.Hash.{hashInRange, hashOf, digestOf, hexOf, lengthAnswered, writtenAnswered}
+use Rattle.hash.specs.Hash.{hashInRange, digestOf, hexOf, lengthAnswered, writtenAnswered}
 use Rattle.hash.specs.Hash as hashes
 use Rattle.blake2b.specs.State.{stateInRange, updated, finalized, counted, closedDigest}
 use Rattle.hash.specs.declared.Hash.{Hash}

@@ -3,9 +3,9 @@
 use crate::lines::put;
 use crate::lines::put_line;
 use crate::lines::put_number;
+use blake2b::State;
 use hash::Hash;
 use hash::LengthAnswer;
-use blake2b::State;
 use numbers::ACCEPTED;
 use numbers::OUTPUT;
 use numbers::RECORD;

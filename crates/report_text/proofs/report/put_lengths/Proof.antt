@@ -53,9 +53,11 @@ returns c =
     let a = p₁ .before .before .before .before .before .args in
     let b : p₃ .put-number2 .result ≤ p₂ .put-number .result + 32 = p₃ .put-number2 .ensures .0 in
     let e = second p₂ in
-    let few : p₃ .put-number2 .result ≤ 77 = omega (arith, b, e) in
-    (few, lengths-appended (now (a .out)) (p₁ .put-line .last .0) (p₂ .put-number .last .0) (p₃ .put-number2 .last .0)
-    (p₁ .put-line .result) (p₂ .put-number .result) (p₃ .put-number2 .result) (a .hash-length) (p₁ .put-line .ensures) (p₂ .put-number .ensures .1) (p₃ .put-number2 .ensures .1))
+    let few : p₃ .put-number2 .result ≤ 77 = omega (arith, b, e) in (
+      few,
+      lengths-appended (now (a .out)) (p₁ .put-line .last .0) (p₂ .put-number .last .0) (p₃ .put-number2 .last .0)
+          (p₁ .put-line .result) (p₂ .put-number .result) (p₃ .put-number2 .result) (a .hash-length) (p₁ .put-line .ensures) (p₂ .put-number .ensures .1) (p₃ .put-number2 .ensures .1),
+    )
 
 pub put-lengths-spec : {M : Type 1} → statement M
 put-lengths-spec =

@@ -1,10 +1,9 @@
 -- `report_text::report::Report::new` meets its contract.
 -- Assumes nothing.
-use mathlib.Core.Path.{_≡_, ap}
+use mathlib.Core.Path.{ap}
 use mathlib.Core.Bool.{true}
 use borrow.Author.Needs.{needs}
 use Rattle.blake2b.specs.declared.state.State.{State}
-use Rattle.report_text.specs.declared.report.Report.{Report}
 use Rattle.report_text.proofs.report.Report.new.Statement.{statement}
 use Rattle.report_text.proofs.report.Report.new.Tie as tie
 

@@ -1,0 +1,7 @@
+pub mod Abc
+pub mod Appending
+pub mod Decimals
+pub mod Longest
+pub mod Reading
+pub mod Reports
+pub mod Unique

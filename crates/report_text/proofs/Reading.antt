@@ -1,0 +1,192 @@
+-- Whatever is read, in whatever pieces, the report's text is document 01's: five lines of all bytes, or the one line where a read failed
+-- or more came than a total may be. So how reads are cut has no effect. Assumes nothing.
+use mathlib.Core.Path.{_≡_, refl, sym, ap, subst, _∙_}
+use mathlib.Core.Bool.{Bool, true, false, cond, _&&_, and-true, and-false}
+use mathlib.Core.List.{List, [], _∷_, _++_, foldl, append-nil, append-assoc}
+use Prim.Native.Nat.{ℕ, _+_, _<_, _≤_}
+use native.Mathlib.Omega.{arith}
+use borrow.Author.Tests.{le-leb, lt-leb, leb-true, leb-false}
+use lib.Dec.{leb, eqb}
+use lib.ListN.{length, take, length-append}
+use Rattle.definitions.specs.Words.{pad}
+use Rattle.definitions.specs.Family.{BLAKE2b}
+use Rattle.definitions.specs.Hash.{sequential, parameterBlock, start, keyed, calls, compress, stateBytes, untruncated, hash, blake2}
+use Rattle.laws.specs.Chain.{zeros}
+use Rattle.numbers.specs.Numbers.{accepted, total-over, limit}
+use Rattle.hash.specs.Hash.{digestOf}
+use Rattle.blake2b.specs.Params.{defaults, asked, front}
+use Rattle.blake2b.specs.State.{pushed, stateInRange, fresh, updated, finalized, counted, closedDigest}
+use Rattle.numbers.specs.Row.{Answer}
+use Rattle.numbers.specs.Row as row
+use Rattle.blake2b.specs.declared.state.State.{State}
+use Rattle.blake2b.specs.declared.state.StateAnswer.{StateAnswer}
+use Rattle.blake2b.proofs.Cleaned.{good-defaults}
+use Rattle.hash.proofs.Digests.{digest-of-hash}
+use Rattle.blake2b.proofs.Pushes.{sound-fresh}
+use Rattle.blake2b.proofs.Rows.{pushed-none, range-reached, says-digest, says-count, updated-accepted, updated-refused}
+use Rattle.blake2b.proofs.Sizes.{length-closed-digest}
+use Rattle.report_text.specs.Lines.{fiveLines, unreadable}
+use Rattle.report_text.specs.Reads.{Read, piece, failure, afterReads, bytesOf, noneFailed, reported, printed}
+use Rattle.report_text.specs.Report.{begun, taken, linesOf, wrote, writtenOver, textAnswered, textOver}
+use Rattle.report_text.specs.declared.report.Report.{Report}
+
+-- the default parameters ask for RFC 7693's hash
+start-plain : start BLAKE2b (asked defaults) ≡ start BLAKE2b (sequential 64 0)
+unfolding start parameterBlock pad zeros
+start-plain = refl
+
+hash-plain : (m : List ℕ) → hash BLAKE2b (asked defaults) false [] m ≡ blake2 BLAKE2b 64 [] m
+unfolding hash untruncated
+hash-plain m = ap (λ (h : List ℕ). take 64 (stateBytes BLAKE2b (foldl (compress BLAKE2b) h (calls BLAKE2b false (keyed BLAKE2b [] m))))) start-plain
+
+-- the state of some bytes, and a report that holds it
+abbrev reached : List ℕ → State
+reached bs = pushed (fresh defaults) bs
+
+abbrev holding : List ℕ → Bool → Report
+holding bs readable = record { state = reached bs; readable = readable }
+
+nothing-reached : reached [] ≡ fresh defaults
+nothing-reached = pushed-none (fresh defaults) (sound-fresh defaults (good-defaults .clean .whole))
+
+-- what an answer of a row tells
+abbrev digest-told : Answer → List ℕ
+digest-told (row.taken n) = []
+digest-told (row.digested n d) = d
+digest-told (row.counted n k) = []
+
+abbrev count-told : Answer → ℕ
+count-told (row.taken n) = 0
+count-told (row.digested n d) = 0
+count-told (row.counted n k) = k
+
+module _ (bs : List ℕ) (few : length bs ≤ limit) where
+  within : length (front defaults) + length bs ≤ limit
+  unfolding front
+  within = omega arith
+
+  in-range : stateInRange (reached bs) ≡ true
+  in-range = range-reached defaults (good-defaults .clean) (good-defaults .ranged) bs within
+
+  digest-is : digestOf (finalized (reached bs) .hash) ≡ blake2 BLAKE2b 64 [] bs
+  digest-is = ap digest-told (says-digest defaults (good-defaults .clean) (good-defaults .ranged) bs within) ∙ hash-plain bs
+
+  count-is : counted (reached bs) .count ≡ length bs
+  count-is = ap count-told (says-count defaults (good-defaults .clean) (good-defaults .ranged) bs within)
+
+  length-is : length (digestOf (finalized (reached bs) .hash)) ≡ 64
+  unfolding finalized
+  length-is = rw in-range (ap length (digest-of-hash (closedDigest (reached bs))) ∙ length-closed-digest (reached bs) (omega arith))
+
+  pub length-of-digest : length (blake2 BLAKE2b 64 [] bs) ≡ 64
+  length-of-digest = sym (ap length digest-is) ∙ length-is
+
+  lines-reached : linesOf (holding bs true) ≡ reported bs
+  unfolding linesOf
+  lines-reached = λ i. fiveLines (length-is i) 0 (count-is i) (digest-is i)
+
+  -- a piece that the state takes, and one that it does not
+  accepts : (a : List ℕ) → leb (length bs + length a) limit ≡ true → updated (reached bs) a ≡ record { number = accepted; state = reached (bs ++ a) }
+  unfolding keyed
+  accepts a e = updated-accepted defaults (good-defaults .clean) (good-defaults .ranged) bs within a e
+
+  refuses : (a : List ℕ) → leb (length bs + length a) limit ≡ false → updated (reached bs) a ≡ record { number = total-over; state = reached bs }
+  unfolding keyed
+  refuses a e = updated-refused defaults (good-defaults .clean) (good-defaults .ranged) bs within a e
+
+  take-accepted : (w : Bool) (a : List ℕ) → leb (length bs + length a) limit ≡ true → taken (holding bs w) a ≡ holding (bs ++ a) w
+  take-accepted w a e =
+      ap (λ (u : StateAnswer). record { state = u .state; readable = w && eqb (u .number) accepted }) (accepts a e)
+      ∙ ap (λ (q : Bool). record { state = reached (bs ++ a); readable = q }) (and-true w)
+
+  take-refused : (w : Bool) (a : List ℕ) → leb (length bs + length a) limit ≡ false → taken (holding bs w) a ≡ holding bs false
+  take-refused w a e =
+      ap (λ (u : StateAnswer). record { state = u .state; readable = w && eqb (u .number) accepted }) (refuses a e)
+      ∙ ap (λ (q : Bool). record { state = reached bs; readable = q }) (and-false w)
+
+-- whether all was read, of some bytes and the reads after them
+abbrev allRead : Bool → List ℕ → List Read → Bool
+allRead w bs xs = w && (noneFailed xs && leb (length (bs ++ bytesOf xs)) limit)
+
+-- a report prints what it should, of some bytes and the reads after them
+record Prints (r : Report) (w : Bool) (bs : List ℕ) (xs : List Read) : Type 0 where
+  ranged : stateInRange (r .state) ≡ true
+  lines : linesOf r ≡ cond (allRead w bs xs) (reported (bs ++ bytesOf xs)) unreadable
+
+Follows : List Read → Type 0
+Follows xs = (w : Bool) (bs : List ℕ) → length bs ≤ limit → Prints (afterReads (holding bs w) xs) w bs xs
+
+ended : Follows []
+unfolding Follows afterReads bytesOf noneFailed linesOf
+ended true bs few =
+    record {
+      ranged = in-range bs few;
+      lines = rw (append-nil bs, le-leb (length bs) limit few) (lines-reached bs few);
+    }
+ended false bs few = record { ranged = in-range bs few; lines = refl }
+
+-- after a read that fails, or a piece that is refused, only the one line is left
+one-line : (r : Report) (w : Bool) (bs cs : List ℕ) (xs ys : List Read) → allRead w bs ys ≡ false → Prints r false cs xs → Prints r w bs ys
+one-line r w bs cs xs ys e p = record { ranged = p .ranged; lines = rw e (p .lines) }
+
+after-failure : (xs : List Read) → Follows xs → Follows (failure ∷ xs)
+unfolding Follows afterReads noneFailed
+after-failure xs rest w bs few = one-line (afterReads (holding bs false) xs) w bs bs xs (failure ∷ xs) (and-false w) (rest false bs few)
+
+after-piece : (a : List ℕ) (xs : List Read) → Follows xs → Follows (piece a ∷ xs)
+unfolding Follows afterReads bytesOf noneFailed
+after-piece a xs rest w bs few = split (leb (length bs + length a) limit) refl
+  where
+    split : (q : Bool) → leb (length bs + length a) limit ≡ q → Prints (afterReads (taken (holding bs w) a) xs) w bs (piece a ∷ xs)
+    split true e =
+        let l = length-append bs a in
+        let more : length (bs ++ a) ≤ limit = omega (arith, leb-true (length bs + length a) limit e) in
+        let p = rest w (bs ++ a) more in
+        let j = append-assoc bs a (bytesOf xs) in
+        rw (take-accepted bs few w a e)
+        (record { ranged = p .ranged; lines = p .lines ∙ ap (λ (m : List ℕ). cond (w && (noneFailed xs && leb (length m) limit)) (reported m) unreadable) j })
+    split false e =
+        let l = length-append bs (a ++ bytesOf xs) in
+        let k = length-append a (bytesOf xs) in
+        let past : limit < length (bs ++ (a ++ bytesOf xs)) = omega (arith, leb-false (length bs + length a) limit e) in
+        let none : allRead w bs (piece a ∷ xs) ≡ false =
+        ap (λ (q : Bool). w && (noneFailed xs && q)) (lt-leb (length (bs ++ (a ++ bytesOf xs))) limit past)
+        ∙ ap (λ (q : Bool). w && q) (and-false (noneFailed xs))
+        ∙ and-false w in
+        rw (take-refused bs few w a e) (one-line (afterReads (holding bs false) xs) w bs bs xs (piece a ∷ xs) none (rest false bs few))
+
+follows : (xs : List Read) → Follows xs
+follows [] = ended
+follows (piece a ∷ xs) = after-piece a xs (follows xs)
+follows (failure ∷ xs) = after-failure xs (follows xs)
+
+from-begun : (xs : List Read) → Prints (afterReads begun xs) true [] xs
+unfolding Follows
+from-begun xs = subst (λ (s : State). Prints (afterReads (record { state = s; readable = true }) xs) true [] xs) nothing-reached (follows xs true [] (omega arith))
+
+-- the text of any reads
+pub text-of-reads : (xs : List Read) → linesOf (afterReads begun xs) ≡ printed xs
+unfolding printed
+text-of-reads xs = from-begun xs .lines
+
+-- and what `text` answers and leaves: it never meets 14
+pub text-answers : (xs : List Read) (room : ℕ) → textAnswered (afterReads begun xs) room ≡ wrote (printed xs) room
+unfolding textAnswered
+text-answers xs room = rw (from-begun xs .ranged) (ap (λ (t : List ℕ). wrote t room) (text-of-reads xs))
+
+pub text-leaves : (xs : List Read) (out : List ℕ) → textOver (afterReads begun xs) out ≡ writtenOver (printed xs) out
+unfolding textOver
+text-leaves xs out = rw (from-begun xs .ranged) (ap (λ (t : List ℕ). writtenOver t out) (text-of-reads xs))
+
+-- a read that fails, at any time, gives the one line
+pub failed-read : (xs : List Read) → noneFailed xs ≡ false → linesOf (afterReads begun xs) ≡ unreadable
+unfolding printed
+failed-read xs e = text-of-reads xs ∙ rw e refl
+
+-- of reads that do not fail, the bytes alone are told
+pub any-cuts : (xs ys : List Read) → noneFailed xs ≡ noneFailed ys → bytesOf xs ≡ bytesOf ys → linesOf (afterReads begun xs) ≡ linesOf (afterReads begun ys)
+unfolding printed
+any-cuts xs ys e f =
+    text-of-reads xs
+    ∙ (λ i. cond (e i && leb (length (f i)) limit) (reported (f i)) unreadable)
+    ∙ sym (text-of-reads ys)

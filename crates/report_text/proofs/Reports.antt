@@ -1,0 +1,126 @@
+-- The report's record: each answer, case by case.
+-- Assumes nothing.
+use mathlib.Core.Path.{_≡_, refl, sym, ap, subst, _∙_}
+use mathlib.Core.Bool.{Bool, true, false, not}
+use mathlib.Core.List.{List, _++_}
+use Prim.Native.Nat.{ℕ, _+_, _<_, _≤_}
+use native.Mathlib.Nat.{zero-add}
+use native.Mathlib.Omega.{arith}
+use borrow.Author.Tests.{not-true, not-false, le-leb, lt-leb}
+use lib.Dec.{eqb}
+use lib.ListN.{length, take, drop}
+use lib.Seq.{paste, take-all, take-append-seam}
+use Rattle.laws.specs.Buffer.{over}
+use Rattle.numbers.specs.Numbers.{accepted, output-short, bad-record}
+use Rattle.hash.specs.Hash.{hashInRange, digestOf, hexOf, lengthAnswered, writtenAnswered}
+use Rattle.hash.specs.Hash as hashes
+use Rattle.blake2b.specs.State.{stateInRange, updated, finalized, counted, closedDigest}
+use Rattle.hash.specs.declared.Hash.{Hash}
+use Rattle.hash.specs.declared.HashAnswer.{HashAnswer}
+use Rattle.hash.specs.declared.LengthAnswer.{LengthAnswer}
+use Rattle.blake2b.specs.declared.state.State.{State}
+use Rattle.blake2b.specs.declared.state.StateAnswer.{StateAnswer}
+use Rattle.blake2b.specs.declared.state.CountAnswer.{CountAnswer}
+use Rattle.hash.proofs.Digests.{digest-length-bounds, hash-in-range, length-hex, length-digest, length-known, answer-fits, over-accepted}
+use Rattle.blake2b.proofs.Ranges.{in-range}
+use Rattle.blake2b.proofs.Sizes.{length-closed-digest}
+use Rattle.report_text.specs.Ascii.{ascii}
+use Rattle.report_text.specs.Lines.{decimal, line, lengthLines, fiveLines, unreadable, Appends}
+use Rattle.report_text.specs.Report.{taken, linesOf, wrote, writtenOver, textAnswered, textOver}
+use Rattle.report_text.specs.declared.report.Report.{Report}
+use Rattle.report_text.proofs.Appending.{appended}
+
+-- a piece, once the state has answered
+module _ (r : Report) (a : List ℕ) {u : StateAnswer} (e : u ≡ updated (r .state) a) where
+  pub taken-readable : r .readable ≡ true → record { state = u .state; readable = eqb (u .number) accepted } ≡ taken r a
+  taken-readable h = rw h (ap (λ (v : StateAnswer). record { state = v .state; readable = eqb (v .number) accepted }) e)
+
+  pub taken-unreadable : r .readable ≡ false → record { state = u .state; readable = r .readable } ≡ taken r a
+  taken-unreadable h = rw h (ap (λ (v : StateAnswer). record { state = v .state; readable = false }) e)
+
+-- a digest that is in range
+module _ (h : Hash) (whole : length (h .bytes) ≡ 64) (good : hashInRange h ≡ true) where
+  pub digest-fits : length (hexOf (digestOf h)) ≤ 128
+  unfolding hashInRange
+  digest-fits =
+      let b = digest-length-bounds (h .len) good in
+      let n = length-digest h whole good in
+      let x = length-hex (digestOf h) in
+      omega arith
+
+  -- in hexadecimal, in front of a buffer of 128 bytes
+  pub hex-written : (space now : List ℕ) {a : LengthAnswer} → length space ≡ 128 → a ≡ writtenAnswered h (length (hexOf (digestOf h))) (length space)
+      → now ≡ hashes.writtenOver h (hexOf (digestOf h)) space → (a .length ≡ length (hexOf (digestOf h))) × (take (a .length) now ≡ hexOf (digestOf h))
+  unfolding over
+  hex-written space now {a} l e f =
+      let text = hexOf (digestOf h) in
+      let fits : length text ≤ length space = let d = digest-fits in omega arith in
+      let g : a ≡ record { number = accepted; length = length text } = e ∙ sym (answer-fits h (length text) (length space) good fits) in
+      let n : a .length ≡ length text = λ i. g i .length in
+      let o : now ≡ text ++ drop (length text) space = f ∙ sym (over-accepted h text space e (λ i. g i .number)) in
+      (n, (λ i. take (n i) (o i)) ∙ take-append-seam text (drop (length text) space))
+
+  pub length-told : {a : LengthAnswer} → a ≡ lengthAnswered h → a .length ≡ length (digestOf h)
+  length-told e = ap (λ (b : LengthAnswer). b .length) (e ∙ sym (length-known h good)) ∙ sym (length-digest h whole good)
+
+-- the five lines, of three writes
+pub five-appended : (out o₁ o₂ o₃ : List ℕ) (r₁ r₂ r₃ n count : ℕ) (d : List ℕ) → n ≡ length d
+    → Appends out 0 (lengthLines n 0) o₁ r₁ → Appends o₁ r₁ (line (ascii "count") (decimal count)) o₂ r₂ → Appends o₂ r₂ (line (ascii "digest") (hexOf d)) o₃ r₃
+    → Appends out 0 (fiveLines (length d) 0 count d) o₃ r₃
+unfolding fiveLines
+five-appended out o₁ o₂ o₃ r₁ r₂ r₃ n count d e a b c =
+    let ab = appended out 0 (lengthLines n 0) (line (ascii "count") (decimal count)) o₁ o₂ r₁ r₂ a b in
+    subst (λ (m : ℕ). Appends out 0 (lengthLines m 0 ++ line (ascii "count") (decimal count) ++ line (ascii "digest") (hexOf d)) o₃ r₃) e
+    (appended out 0 (lengthLines n 0 ++ line (ascii "count") (decimal count)) (line (ascii "digest") (hexOf d)) o₂ o₃ r₂ r₃ ab c)
+
+-- the digest of a state that is in range
+pub finalized-in-range : (s : State) {a : HashAnswer} → stateInRange s ≡ true → a ≡ finalized s → hashInRange (a .hash) ≡ true
+unfolding finalized
+finalized-in-range s {a} good e =
+    let r = in-range (s .«hash_length») (s .buflen) (s .count) (s .«is_keyed») good in
+    let l = length-closed-digest s (r .most) in
+    let d : hashInRange (finalized s .hash) ≡ true = rw good (hash-in-range (closedDigest s) (omega (arith, r .least)) (omega (arith, r .most))) in
+    ap (λ (b : HashAnswer). hashInRange (b .hash)) e ∙ d
+
+-- the text of a report
+module _ (r : Report) (out now : List ℕ) (end : ℕ) where
+  pub lines-unreadable : not (r .readable) ≡ true → Appends out 0 (line (ascii "result") (ascii "unreadable")) now end → Appends out 0 (linesOf r) now end
+  unfolding linesOf unreadable
+  lines-unreadable h a = rw (not-true (r .readable) h) a
+
+  pub lines-readable : not (r .readable) ≡ false → {a : HashAnswer} {c : CountAnswer} → a ≡ finalized (r .state) → c ≡ counted (r .state)
+      → Appends out 0 (fiveLines (length (digestOf (a .hash))) 0 (c .count) (digestOf (a .hash))) now end → Appends out 0 (linesOf r) now end
+  unfolding linesOf
+  lines-readable h {a} {c} e f p =
+      let t : fiveLines (length (digestOf (a .hash))) 0 (c .count) (digestOf (a .hash)) ≡ linesOf r =
+      rw (not-false (r .readable) h) (λ i. fiveLines (length (digestOf (e i .hash))) 0 (f i .count) (digestOf (e i .hash))) in
+      subst (λ (l : List ℕ). Appends out 0 l now end) t p
+
+-- a text that is to go to an output
+module _ (text out : List ℕ) where
+  pub wrote-short : length out < length text → (record { number = output-short; length = 0 } ≡ wrote text (length out)) × (out ≡ writtenOver text out)
+  unfolding wrote writtenOver
+  wrote-short h = let e = lt-leb (length text) (length out) h in (rw e refl, rw e refl)
+
+  pub wrote-fits : {now : List ℕ} {end : ℕ} → length text ≤ length out → (end ≡ 0 + length text) × (now ≡ paste out 0 text (length text))
+      → (record { number = accepted; length = end } ≡ wrote text (length out)) × (now ≡ writtenOver text out)
+  unfolding wrote writtenOver over
+  wrote-fits {now} {end} h p =
+      let e = le-leb (length text) (length out) h in
+      let n = p .0 ∙ zero-add (length text) in
+      let o : now ≡ text ++ drop (length text) out =
+      p .1 ∙ (λ i. take-all (length text) text (omega arith) i ++ drop (zero-add (length text) i) out) in
+      (rw (e, n) refl, rw e o)
+
+-- the report's text, to an output
+module _ (r : Report) (out : List ℕ) {good : Bool} (e : good ≡ stateInRange (r .state)) where
+  pub text-bad : not good ≡ true → (record { number = bad-record; length = 0 } ≡ textAnswered r (length out)) × (out ≡ textOver r out)
+  unfolding textAnswered textOver
+  text-bad h = let f = sym e ∙ not-true good h in (rw f refl, rw f refl)
+
+  pub text-wrote : not good ≡ false → {text now : List ℕ} {a : LengthAnswer} → text ≡ linesOf r
+      → (a ≡ wrote text (length out)) × (now ≡ writtenOver text out) → (a ≡ textAnswered r (length out)) × (now ≡ textOver r out)
+  unfolding textAnswered textOver
+  text-wrote h g w =
+      let f = sym e ∙ not-false good h in
+      (rw f (w .0 ∙ ap (λ (t : List ℕ). wrote t (length out)) g), rw f (w .1 ∙ ap (λ (t : List ℕ). writtenOver t out) g))

@@ -1,0 +1,17 @@
+-- `report_text::report::Report::new` meets its contract.
+-- Assumes nothing.
+use mathlib.Core.Path.{ap}
+use mathlib.Core.Bool.{true}
+use borrow.Author.Needs.{needs}
+use Rattle.blake2b.specs.declared.state.State.{State}
+use Rattle.report_text.proofs.report.Report.new.Statement.{statement}
+use Rattle.report_text.proofs.report.Report.new.Tie as tie
+
+new-requires : tie.Need-new-requires
+new-requires c κs = search needs
+
+returns : tie.Need-returns
+returns c = ap (λ (s : State). record { state = s; readable = true }) (c .new .ensures)
+
+pub new-spec : {M : Type 1} → statement M
+new-spec = tie.close (tie.spec new-requires returns)

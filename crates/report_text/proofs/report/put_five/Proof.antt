@@ -1,0 +1,58 @@
+-- `report_text::report::put_five` meets its contract.
+-- Assumes nothing.
+use mathlib.Core.Path.{_≡_}
+use mathlib.Core.Bool.{true}
+use borrow.Author.Needs.{needs}
+use denote.Ref.{now}
+use lib.ListN.{length}
+use Rattle.hash.specs.Hash.{hashInRange, digestOf}
+use Rattle.report_text.proofs.Reports.{length-told, five-appended}
+use Rattle.report_text.proofs.report.put_five.Statement.{statement}
+use Rattle.report_text.proofs.report.put_five.Tie as tie
+
+sized : (c : tie.Start) → length (c .args .hash .bytes) ≡ 64
+sized c = search needs
+
+good : (c : tie.Start) → hashInRange (c .args .hash) ≡ true
+good c = search needs
+
+len-requires : tie.Need-len-requires
+len-requires c κs = search needs
+
+put-lengths-requires : tie.Need-put-lengths-requires
+put-lengths-requires c κs = search needs
+
+slice-aggregate-put-number : tie.Need-slice-aggregate-put-number
+slice-aggregate-put-number c = search needs
+
+put-number-requires : tie.Need-put-number-requires
+put-number-requires c κs = search needs
+
+put-digest-requires : tie.Need-put-digest-requires
+put-digest-requires c κs = search needs
+
+same-length : tie.Need-same-length
+same-length c = search needs
+
+returns : tie.Need-returns
+returns c =
+    let p₃ = c .before .before in
+    let p₂ = p₃ .before .before .before .before in
+    let p₁ = p₂ .before .before .before .before .before in
+    let l = p₁ .before .before in
+    let s = l .before .before in
+    five-appended (now (s .args .out)) (p₁ .put-lengths .last .0) (p₂ .put-number .last .0) (p₃ .put-digest .last .0)
+    (p₁ .put-lengths .result) (p₂ .put-number .result) (p₃ .put-digest .result) (l .len .result .length) (s .args .count) (digestOf (s .args .hash))
+    (length-told (s .args .hash) (sized s) (good s) (l .len .ensures)) (p₁ .put-lengths .ensures .1) (p₂ .put-number .ensures .1) (p₃ .put-digest .ensures)
+
+pub put-five-spec : {M : Type 1} → statement M
+put-five-spec =
+    tie.close
+    (tie.spec
+    len-requires
+    put-lengths-requires
+    slice-aggregate-put-number
+    put-number-requires
+    put-digest-requires
+    same-length
+    returns)

@@ -3,5 +3,4 @@ pub mod Family
 pub mod Compress
 pub mod Hash
 pub mod Tree
-pub mod Cases
 pub mod Vectors

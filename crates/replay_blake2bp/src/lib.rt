@@ -1,4 +1,4 @@
-// The interpreter of a script's calls on BLAKE2bp, over crate replay_batches', which has all other calls.
+// The interpreter of a script's calls on BLAKE2bp; crates replay and replay_batches have all other calls.
 // Test code: safe by proof, with no promise of its own. docs/REPLAY.md has the format.
 mod records;
 mod script;

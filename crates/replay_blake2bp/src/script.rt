@@ -1,5 +1,5 @@
-// A line of a script: a call of this crate's table, or a line that crate replay_batches answers.
-// What is no call of either is answered there too, and changes nothing.
+// A line of a script: a call of this crate's table, or a line for another crate to answer.
+// A line that names a call and gives it something else is answered with what is wrong, and changes nothing.
 use crate::records;
 use crate::session::Reply;
 use crate::session::Session;
@@ -33,21 +33,12 @@ fn make(session: Session, call: Call, message: &[u8], out: &mut [u8]) -> Reply {
     }
 }
 
-fn pass_on(session: Session, line: &[u8], space: &mut [u8], out: &mut [u8]) -> Reply {
-    let base = session.base;
-    let done = replay_batches::run_line(base, line, space, out);
-    let next = done.session;
-    let mut after = session;
-    after.base = next;
-    after.answered(done.length)
-}
-
 // One line of a script. Messages are made in the space, and the answer goes to the output: nothing where there is none.
 pub fn run_line(session: Session, line: &[u8], space: &mut [u8], out: &mut [u8]) -> Reply {
     let call = table::read(line, space);
     let fault = call.fault;
     match fault {
-        Fault::Command => pass_on(session, line, space, out),
+        Fault::Command => session.not_named(),
         _ => make(session, call, part(space, call.from, call.to), out),
     }
 }

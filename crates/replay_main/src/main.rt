@@ -1,18 +1,17 @@
 // Runs a script of calls: it comes on standard input, and the answers go to standard output.
-// The work is crate replay_blake2bp's; here a line is put together from what the reads bring.
+// The work is that of crates replay_blake2bp and replay_batches; here a line is put together from what the reads bring.
 use bytes::scan::find;
 use libc::STDIN_FILENO;
 use libc::STDOUT_FILENO;
-use replay_blake2bp::Session;
-use replay_blake2bp::run_line;
 use replay_text::LINE;
 use replay_text::part;
 use replay_text::push;
 use replay_text::put;
 
-// The session, how many bytes of an unfinished line are held, and whether there may be more to read.
+// The sessions, how many bytes of an unfinished line are held, and whether there may be more to read.
 struct Place {
-    session: Session,
+    blake2bp: replay_blake2bp::Session,
+    others: replay_batches::Session,
     held: usize,
     more: bool,
 }
@@ -25,20 +24,35 @@ fn write_line(out: &mut [u8], length: usize) {
     }
 }
 
+// What names no call at all is answered by replay_batches too.
+fn run_other(place: Place, line: &[u8], space: &mut [u8], out: &mut [u8]) -> Place {
+    let others = place.others;
+    let done = replay_batches::run_line(others, line, space, out);
+    write_line(out, done.length);
+    let mut next = place;
+    let after = done.session;
+    next.others = after;
+    next
+}
+
 // The longest answer, which shows 1,024 bytes, has room in the buffer's 4,096.
-fn run(session: Session, line: &[u8], space: &mut [u8]) -> Session {
+fn run(place: Place, line: &[u8], space: &mut [u8]) -> Place {
     let mut out = io::buffer();
-    let done = run_line(session, line, space, &mut out);
+    let blake2bp = place.blake2bp;
+    let done = replay_blake2bp::run_line(blake2bp, line, space, &mut out);
+    if !done.known {
+        return run_other(place, line, space, &mut out);
+    }
     write_line(&mut out, done.length);
-    done.session
+    let mut next = place;
+    let after = done.session;
+    next.blake2bp = after;
+    next
 }
 
 // The line that is held is complete.
 fn complete(place: Place, line: &[u8], space: &mut [u8]) -> Place {
-    let mut next = place;
-    let session = place.session;
-    let after = run(session, part(line, 0, place.held), space);
-    next.session = after;
+    let mut next = run(place, part(line, 0, place.held), space);
     next.held = 0;
     next
 }
@@ -91,9 +105,11 @@ fn read_some(place: Place, line: &mut [u8], space: &mut [u8]) -> Place {
 
 // A proved loop has to end, and nothing says that the input does: no run has so many turns.
 fn read_all(line: &mut [u8], space: &mut [u8]) {
-    let session = Session::new();
+    let blake2bp = replay_blake2bp::Session::new();
+    let others = replay_batches::Session::new();
     let mut place = Place {
-        session,
+        blake2bp,
+        others,
         held: 0,
         more: true,
     };

@@ -12,7 +12,7 @@ use Rattle.definitions.specs.Words.{_!_, from, part, pad}
 use Rattle.definitions.specs.Family.{BLAKE2b}
 use Rattle.definitions.specs.Hash.{Call, start, words, parameterBlock, keyed, calls}
 use Rattle.definitions.specs.Tree.{share, leafData, parameters}
-use Rattle.vectors.proofs.Lengths.{length-from, length-part, length-pad}
+use Rattle.definitions.proofs.Lengths.{length-from, length-part, length-pad}
 use Rattle.vectors.specs.Cases.{Question, chain, leaves, firstWords, Key, seen, summary, Holds, Case, table, Each}
 
 -- lengths alone

@@ -13,4 +13,4 @@ abbrev μ-loop : tie.MeasureT-loop
 μ-loop line₀ space₀ place₀ turns₀ line space place turns = turns
 
 pub read-all-spec : {M : Type 1} → statement M
-read-all-spec = tie.close (tie.spec Inv-loop μ-loop (search needs) (search needs) (search needs) (search needs) (search needs) (search needs) (search needs) (search needs) (search needs) (search needs) (search needs) (search needs))
+read-all-spec = tie.close (tie.spec Inv-loop μ-loop (search needs) (search needs) (search needs) (search needs) (search needs) (search needs) (search needs) (search needs) (search needs) (search needs) (search needs) (search needs) (search needs))

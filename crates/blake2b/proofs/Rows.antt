@@ -16,6 +16,7 @@ use Rattle.laws.specs.Buffer.{joined}
 use Rattle.laws.proofs.Lifts.{after}
 use Rattle.laws.proofs.Buffers.{Sound}
 use Rattle.laws.proofs.Buffers as buffers
+use Rattle.laws.proofs.TwoRows as rows
 use Rattle.numbers.specs.Numbers.{accepted, total-over, limit}
 use Rattle.numbers.specs.Row.{Call, answers, digested}
 use Rattle.numbers.specs.Row as row
@@ -38,7 +39,7 @@ pushed-pushed s a b = ap (holding s) (buffers.pushed-pushed machine lawful tight
 
 -- no bytes change nothing
 pub pushed-none : (s : State) → Sound machine (core s) → pushed s [] ≡ s
-pushed-none s sound = ap (holding s) (buffers.pushed-none machine lawful tight (core s) sound)
+pushed-none s sound = ap (holding s) (rows.pushed-none machine lawful (core s) sound)
 
 -- behind the key block, the message: what the definitions hash
 block-keyed : (n : ℕ) (b m : List ℕ) → length b ≡ 128 → b ≡ pad 128 (take n b) → cond (leb 1 n) b [] ++ m ≡ keyed BLAKE2b (take n b) m

@@ -10,7 +10,7 @@ use lib.Dec.{leb}
 use lib.ListN.{length, length-append}
 use Rattle.laws.specs.Buffer.{Held, joined}
 use Rattle.laws.proofs.Buffers.{Sound}
-use Rattle.laws.proofs.TwoRows.{pushed-nothing}
+use Rattle.laws.proofs.TwoRows.{pushed-none}
 use Rattle.numbers.specs.Numbers.{accepted, limit}
 use Rattle.hash.specs.Hash.{hashOf}
 use Rattle.leaves.specs.declared.leaves.Leaf.{Leaf}
@@ -37,7 +37,7 @@ updated-pushed s a good within = rw (good, le-leb (total s + length a) limit wit
 pub empty-changes-nothing : (s : State) → Sound machine (core s) → stateInRange s ≡ true → updated s [] ≡ record { number = accepted; state = s }
 empty-changes-nothing s sound good =
     let r = in-range (s .«hash_length») (s .«buf_len») (s .count .0) (s .«is_keyed») good in
-    updated-pushed s [] good (omega (arith, r .within)) ∙ ap (λ (h : Held (List Leaf)). record { number = accepted; state = holding s h }) (pushed-nothing machine lawful (core s) sound)
+    updated-pushed s [] good (omega (arith, r .within)) ∙ ap (λ (h : Held (List Leaf)). record { number = accepted; state = holding s h }) (pushed-none machine lawful (core s) sound)
 
 -- so do updates of any pieces
 next-is-pushed : (s : State) (ps : List (List ℕ)) → Sound machine (core s) → stateInRange s ≡ true → total s + length (joined ps) ≤ limit → foldl next s ps ≡ foldl pushed s ps

@@ -222,13 +222,3 @@ module _ {L : Type 0} (m : Machine L) (lawful : Lawful m) where
     unfolding after joined
     after-joined s a [] = rw append-nil
     after-joined s a (b ∷ ps) = rw (pushed-pushed s a b, after-joined s (a ++ b) ps, append-assoc)
-
-    -- no bytes change nothing
-    pub pushed-none : (s : Held L) → Sound m s → pushed m s [] ≡ s
-    unfolding moved over behind
-    pushed-none s sound =
-        let l = length-pending s sound in
-        let z : m .row * 0 ≡ 0 = omega arith in
-        let y : m .step * 0 ≡ 0 = omega arith in
-        let none = spare-none (m .row) (m .need) some (length (pending s)) (omega (arith, sound .held)) in
-        rw (pushed-tight s [], append-nil (pending s), none, z, y, run-none, add-zero, sub-zero, l) (unfold pending in rw (take-append-drop (s .buflen) (s .buf)))

@@ -52,12 +52,6 @@ pub each-turn : {W : Type 0} (g : ℕ → W → W) (ws : List W) (i : ℕ) {out 
 each-turn g ws i z h e f =
     (λ j. set (e j) i (f j)) ∙ ap (λ (k : ℕ). set (each g 0 i ws) i (g k (getD ws i z))) (sym (zero-add i)) ∙ each-step g 0 i ws z h ∙ ap (λ (k : ℕ). each g 0 k ws) (sym (add-one i))
 
-pub length-each : {W : Type 0} (g : ℕ → W → W) (i n : ℕ) (ws : List W) → length (each g i n ws) ≡ length ws
-unfolding each
-length-each g i zero ws = refl
-length-each g i (suc n) [] = refl
-length-each g i (suc n) (w ∷ ws) = rw (length-each g (suc i) n ws)
-
 -- each of the values of h
 pub each-map : {W : Type 0} (g : ℕ → W → W) (h : ℕ → W) (i n : ℕ) → each g i n (map h (from i n)) ≡ map (λ j. g j (h j)) (from i n)
 unfolding each

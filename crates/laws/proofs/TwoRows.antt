@@ -66,9 +66,9 @@ module _ {L : Type 0} (m : Machine L) (lawful : Lawful m) where
   gone-held zero h = gone-few m lawful 0 0 (omega arith)
   gone-held (suc p) h = gone-fits m lawful (suc p) (suc p) (omega arith) h
 
-  pub pushed-nothing : (s : Held L) → Sound m s → pushed m s [] ≡ s
+  pub pushed-none : (s : Held L) → Sound m s → pushed m s [] ≡ s
   unfolding pushed moved over behind
-  pushed-nothing s sound =
+  pushed-none s sound =
       let l = length-pending m lawful s sound in
       let z : m .row * 0 ≡ 0 = omega arith in
       let y : m .step * 0 ≡ 0 = omega arith in

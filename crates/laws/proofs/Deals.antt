@@ -1,19 +1,18 @@
 -- The machine of n leaves that are dealt blocks in turn is lawful, and its answer, each leaf's chain through its blocks, may be asked for
 -- after any rows that may go. For any number of leaves. Assumes nothing.
 use mathlib.Core.Path.{_≡_, refl, sym, ap, _∙_}
-use mathlib.Core.Bool.{Bool, true, false}
+use mathlib.Core.Bool.{Bool, true, false, _&&_}
 use mathlib.Core.List.{List, [], _∷_, _++_, map}
-use Prim.Native.Nat.{ℕ, zero, suc, _+_, _-_, _*_, _≤_, _<_, min}
+use Prim.Native.Nat.{ℕ, zero, suc, _+_, _-_, _*_, _≤_, _<_}
 use native.Mathlib.Nat.{add-zero, zero-add, add-comm, le-refl, le-trans, mul-le-mul-right, mul-pos, not-suc-le-zero}
 use native.Mathlib.Numerals.{add-one}
 use native.Mathlib.Omega.{arith}
-use borrow.Author.Tests.{leb-true, leb-false}
-use lib.Dec.{eqb, leb}
-use lib.ListN.{length, take, drop, set, getD, length-drop, drop-of-length-le}
-use lib.Seq.{drop-drop, drop-append-le, take-all, length-take-le}
+use lib.Dec.{eqb}
+use lib.ListN.{length, drop, set, getD, length-drop}
+use lib.Seq.{drop-drop, drop-append-le, length-take-le}
 use Rattle.definitions.specs.Words.{from}
 use Rattle.laws.specs.Chain.{spare, blockAt, absorb, through}
-use Rattle.laws.specs.Deal.{each, leafRun, leafEnd, dealt, finished, parallel}
+use Rattle.laws.specs.Deal.{each, leafRun, leafThrough, dealt, finished, parallel}
 use Rattle.laws.proofs.Rows.{spare-is, spare-less}
 use Rattle.laws.proofs.Chains.{through-whole, absorb-more, absorb-front, through-late}
 use Rattle.laws.proofs.Buffers.{Lawful, Late}
@@ -75,7 +74,7 @@ module _ {W : Type 0} (bb : ℕ) (F : W → List ℕ → ℕ → Bool → Bool �
       rw (drop-append-le (i * bb) a b here) (absorb-front bb F (n * bb) w t (drop (i * bb) a) b (suc k) (simp length-drop (omega arith)))
 
   -- a run of leaf i over whole rows that does not finalize: the last block too is one of those that went
-  pub rows-through : (w : W) (t : ℕ) (d : List ℕ) (i k : ℕ) → i < n → 0 < k → length d ≡ n * bb * k
+  rows-through : (w : W) (t : ℕ) (d : List ℕ) (i k : ℕ) → i < n → 0 < k → length d ≡ n * bb * k
       → through bb F (n * bb) w t false false (drop (i * bb) d) ≡ absorb bb F (n * bb) w t (drop (i * bb) d) k
   unfolding blockAt
   rows-through w t d i zero g h e = absurd (not-suc-le-zero h)
@@ -85,29 +84,18 @@ module _ {W : Type 0} (bb : ℕ) (F : W → List ℕ → ℕ → Bool → Bool �
       through-whole bb F (n * bb) w t (drop (i * bb) d) k (spare-is (n * bb) 0 row (length (drop (i * bb) d)) k (omega arith) (omega arith))
       (length-take-le bb (drop (n * bb * k) (drop (i * bb) d)) (rw (length-drop (n * bb * k) (drop (i * bb) d)) (omega arith)))
 
-  -- a turn of a loop over the leaves, which cuts the input at leaf i's first block
-  module _ (ws : List W) (t : ℕ) (d : List ℕ) (i : ℕ) {out : List W} {r : W} (z : W) (all : length ws ≡ n) (h : i < n) where
-    pub dealt-turn : (k m : ℕ) → 0 < k → length d ≡ n * bb * k → m ≡ length d - i * bb → out ≡ each (leafRun bb F n t d k) 0 i ws
-        → r ≡ through bb F (n * bb) (getD ws i z) t false false (take m (drop (i * bb) d)) → set out i r ≡ each (leafRun bb F n t d k) 0 (i + 1) ws
-    dealt-turn k m some whole left e f =
-        let cut : take m (drop (i * bb) d) ≡ drop (i * bb) d = take-all m (drop (i * bb) d) (rw length-drop (omega arith)) in
-        each-turn (leafRun bb F n t d k) ws i z (omega arith) e (f ∙ ap (through bb F (n * bb) (getD ws i z) t false false) cut ∙ rows-through (getD ws i z) t d i k h some whole)
+  -- a turn of a loop over the leaves, which hands leaf i the input from its first block on
+  pub leaf-turn : (ws : List W) (t : ℕ) (f : Bool) (d : List ℕ) (i : ℕ) {out : List W} {r : W} (z : W) {node : Bool} {rest : List ℕ} → length ws ≡ n → i < n → node ≡ eqb (suc i) n
+      → rest ≡ drop (i * bb) d → out ≡ each (leafThrough bb F n t f d) 0 i ws → r ≡ through bb F (n * bb) (getD ws i z) t f (f && node) rest
+      → set out i r ≡ each (leafThrough bb F n t f d) 0 (i + 1) ws
+  leaf-turn ws t f d i z all h node-is rest-is e g =
+      each-turn (leafThrough bb F n t f d) ws i z (omega arith) e (g ∙ (λ j. through bb F (n * bb) (getD ws i z) t f (f && node-is j) (rest-is j)))
 
-    pub ended-turn : (at m : ℕ) {node : Bool} → at ≡ min (i * bb) (length d) → m ≡ length d - at → node ≡ eqb (suc i) n → out ≡ each (leafEnd bb F n t d) 0 i ws
-        → r ≡ through bb F (n * bb) (getD ws i z) t true node (take m (drop at d)) → set out i r ≡ each (leafEnd bb F n t d) 0 (i + 1) ws
-    ended-turn at m at-is left node-is e f =
-        let cut : take m (drop at d) ≡ drop (i * bb) d = rw (left, at-is) (split (leb (i * bb) (length d)) refl) in
-        each-turn (leafEnd bb F n t d) ws i z (omega arith) e (f ∙ (λ j. through bb F (n * bb) (getD ws i z) t true (node-is j) (cut j)))
-      where
-        split : (b : Bool) → leb (i * bb) (length d) ≡ b → take (length d - min (i * bb) (length d)) (drop (min (i * bb) (length d)) d) ≡ drop (i * bb) d
-        split true g =
-            let least : min (i * bb) (length d) ≡ i * bb = omega (arith, leb-true (i * bb) (length d) g) in
-            rw (least, take-all (length d - i * bb) (drop (i * bb) d) (rw length-drop (omega arith)))
-        split false g =
-            let less = leb-false (i * bb) (length d) g in
-            let least : min (i * bb) (length d) ≡ length d = omega arith in
-            let none : length d - length d ≡ 0 = omega arith in
-            rw (least, none, drop-of-length-le d {i = i * bb} (omega arith))
+  -- where it does not finalize, over whole rows, these rows were dealt
+  pub rows-dealt : (ws : List W) (t : ℕ) (d : List ℕ) (k : ℕ) → 0 < k → length d ≡ n * bb * k → each (leafThrough bb F n t false d) 0 n ws ≡ dealt bb F n ws t d k
+  unfolding dealt
+  rows-dealt ws t d k some whole =
+      each-same (leafThrough bb F n t false d) (leafRun bb F n t d k) 0 n ws (λ i w h. rows-through w t d i k (omega arith) some whole)
 
   dealt-none : (ws : List W) (t : ℕ) (d : List ℕ) → dealt bb F n ws t d 0 ≡ ws
   unfolding dealt

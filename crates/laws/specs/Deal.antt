@@ -1,6 +1,6 @@
 -- Blocks dealt to n leaves in turn, as BLAKE2bp and BLAKE2sp do: the machine of n leaves, over any compression F.
 -- Assumes nothing.
-use mathlib.Core.Bool.{Bool, true}
+use mathlib.Core.Bool.{Bool, true, _&&_}
 use mathlib.Core.List.{List, [], _∷_}
 use Prim.Native.Nat.{ℕ, zero, suc, _-_, _*_}
 use lib.Dec.{eqb}
@@ -15,12 +15,12 @@ each g i (suc n) [] = []
 each g i (suc n) (w ∷ ws) = g i w ∷ each g (suc i) n ws
 
 module _ {W : Type 0} (bb : ℕ) (F : W → List ℕ → ℕ → Bool → Bool → W) (n : ℕ) where
-  -- leaf i over k rows of d; and over all of d, where the last leaf is the last node
+  -- leaf i over k rows of d; and over all of d, finalizing or not, where the last leaf is the last node
   abbrev pub leafRun : ℕ → List ℕ → ℕ → ℕ → W → W
   leafRun t d k i w = absorb bb F (n * bb) w t (drop (i * bb) d) k
 
-  abbrev pub leafEnd : ℕ → List ℕ → ℕ → W → W
-  leafEnd t d i w = through bb F (n * bb) w t true (eqb (suc i) n) (drop (i * bb) d)
+  abbrev pub leafThrough : ℕ → Bool → List ℕ → ℕ → W → W
+  leafThrough t f d i w = through bb F (n * bb) w t f (f && eqb (suc i) n) (drop (i * bb) d)
 
   -- k rows of n blocks, a block to each leaf
   unfoldable pub dealt : List W → ℕ → List ℕ → ℕ → List W
@@ -28,7 +28,7 @@ module _ {W : Type 0} (bb : ℕ) (F : W → List ℕ → ℕ → Bool → Bool �
 
   -- the leaves once d is all that comes
   unfoldable pub finished : List W → ℕ → List ℕ → List W
-  finished ws t d = each (leafEnd t d) 0 n ws
+  finished ws t d = each (leafThrough t true d) 0 n ws
 
   -- n leaves: a row goes where each leaf has a byte left, and the buffer has room for two rows
   abbrev pub parallel : Machine (List W)

@@ -5,6 +5,7 @@ use crate::storing::store;
 use guts::Finalize;
 use guts::LastNode;
 use guts::Stride;
+use guts::offset_slice;
 use hash::Hash;
 use hash::HashAnswer;
 use portable::compress1_loop;
@@ -12,12 +13,12 @@ use words::write_words;
 ghost use mathlib.Core.Path.{_≡_};
 ghost use mathlib.Core.Bool.{_&&_};
 ghost use mathlib.Core.List.{map, flatMap};
-ghost use Prim.Native.Nat.{suc, _+_, _*_, _^_, _<_, min};
+ghost use Prim.Native.Nat.{suc, _+_, _*_, _^_, _<_};
 ghost use lib.Dec.{eqb};
 ghost use lib.ListN.{length};
 ghost use Rattle.definitions.specs.Family.{BLAKE2b};
 ghost use Rattle.laws.specs.Chain.{zeros, through};
-ghost use Rattle.laws.specs.Deal.{dealt, finished};
+ghost use Rattle.laws.specs.Deal.{each, leafThrough, dealt, finished};
 ghost use Rattle.laws.specs.Leaves.{rooted};
 ghost use Rattle.guts.specs.Guts.{finalizes, isLastNode};
 ghost use Rattle.hash.specs.Hash.{madeFrom};
@@ -32,16 +33,6 @@ const STATEBYTES: usize = 64;
 
 pub struct Leaf {
     pub words: [u64; 8],
-}
-
-// The smaller of two numbers.
-fn least(a: usize, b: usize) -> usize
-    ensures { λ r. ⌜ r ≡ min a b ⌝ }
-{
-    if a < b {
-        return a;
-    }
-    b
 }
 
 // The leaf i is a last node where no leaf follows.
@@ -72,6 +63,28 @@ fn run_leaf(
     Leaf { words }
 }
 
+// Every leaf, each from its own first block on: the last leaf is the last node where the run finalizes.
+fn run_leaves(
+    leaves: [Leaf; DEGREE],
+    input: &[u8],
+    count: LeafCount,
+    finalize: Finalize,
+) -> [Leaf; DEGREE]
+    requires { ⌜ count .0 + length (now input) < 2 ^ 64 ⌝ }
+    ensures { λ r. ⌜ r ≡ each (leafThrough 128 onLeaf 4 (count .0) (finalizes finalize) (now (input .entry))) 0 4 leaves ⌝ }
+{
+    let mut out = leaves;
+    let mut i: usize = 0;
+    while i < DEGREE {
+        let leaf = leaves[i];
+        let rest = offset_slice(input, i * BLOCKBYTES);
+        let next = run_leaf(leaf, rest, count, last_node_of(i), finalize);
+        out[i] = next;
+        i += 1;
+    }
+    out
+}
+
 // Whole rows, a block of each to each leaf; none of them is a last one.
 pub fn compress_to_leaves(
     leaves: [Leaf; DEGREE],
@@ -82,16 +95,7 @@ pub fn compress_to_leaves(
     requires { ⌜ (0 < rows) × (length (now input) ≡ 512 * rows) × (count .0 + length (now input) < 2 ^ 64) ⌝ }
     ensures { λ r. ⌜ r ≡ dealt 128 onLeaf 4 leaves (count .0) (now (input .entry)) rows ⌝ }
 {
-    let mut out = leaves;
-    let mut i: usize = 0;
-    while i < DEGREE {
-        let leaf = leaves[i];
-        let at = i * BLOCKBYTES;
-        let next = run_leaf(leaf, &input[at..], count, LastNode::No, Finalize::No);
-        out[i] = next;
-        i += 1;
-    }
-    out
+    run_leaves(leaves, input, count, Finalize::No)
 }
 
 // All that the leaves still get: a leaf that gets nothing ends all the same.
@@ -99,18 +103,7 @@ pub fn finish_leaves(leaves: [Leaf; DEGREE], input: &[u8], count: LeafCount) -> 
     requires { ⌜ count .0 + length (now input) < 2 ^ 64 ⌝ }
     ensures { λ r. ⌜ r ≡ finished 128 onLeaf 4 leaves (count .0) (now (input .entry)) ⌝ }
 {
-    let mut out = leaves;
-    let n = input.len();
-    let mut i: usize = 0;
-    while i < DEGREE {
-        let leaf = leaves[i];
-        let at = least(i * BLOCKBYTES, n);
-        let node = last_node_of(i);
-        let next = run_leaf(leaf, &input[at..], count, node, Finalize::Yes);
-        out[i] = next;
-        i += 1;
-    }
-    out
+    run_leaves(leaves, input, count, Finalize::Yes)
 }
 
 fn zero_states() -> [u8; 256]

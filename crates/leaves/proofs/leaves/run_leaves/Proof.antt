@@ -1,0 +1,59 @@
+-- `leaves::leaves::run_leaves` meets its contract. The loop's invariant: the first i leaves were run.
+-- Assumes nothing.
+use mathlib.Core.Path.{_≡_, refl, ap, _∙_}
+use Prim.Native.Nat.{_≤_, _-_}
+use native.Mathlib.Omega.{arith}
+use borrow.Author.Needs.{needs}
+use lib.ListN.{length, length-drop}
+use Rattle.laws.specs.Deal.{each, leafThrough}
+use Rattle.laws.proofs.Deals.{leaf-turn}
+use Rattle.guts.specs.Guts.{finalizes}
+use Rattle.leaves.specs.Leaves.{onLeaf}
+use Rattle.leaves.proofs.leaves.run_leaves.Statement.{statement}
+use Rattle.leaves.proofs.leaves.run_leaves.Tie as tie
+
+abbrev Inv-loop : tie.InvT-loop
+Inv-loop input count finalize leaves out₀ i₀ out i = (i ≤ 4) × (out ≡ each (leafThrough 128 onLeaf 4 (count .0) (finalizes finalize) input) 0 i out₀)
+
+abbrev μ-loop : tie.MeasureT-loop
+μ-loop input count finalize leaves out₀ i₀ out i = 4 - i
+
+loop-holds : tie.Need-loop-holds Inv-loop μ-loop
+unfolding each
+loop-holds c = (search needs, refl)
+
+run-leaf-requires : tie.Need-run-leaf-requires Inv-loop μ-loop
+run-leaf-requires c κs =
+    rw (c .before .offset-slice .ensures, length-drop) (omega arith)
+
+loop-again : tie.Need-loop-again Inv-loop μ-loop
+loop-again c =
+    let l = c .before .before .before .before .before .loop in
+    let a = c .before .before .before .before .before .before .before .args in
+    (omega arith, leaf-turn 128 onLeaf (omega arith) 4 (omega arith) (a .t1) (a .count .0) (finalizes (a .finalize)) (a .input .now) (l .i) _ (search needs) (omega arith) (c .before .last-node-of .ensures) (c .before .before .offset-slice .ensures) (l .inv .1) (c .run-leaf .ensures))
+
+returns : tie.Need-returns Inv-loop μ-loop
+returns c =
+    let l = c .before .loop in
+    let e : l .i ≡ 4 = omega arith in
+    rw e at (l .inv .1)
+
+pub run-leaves-spec : {M : Type 1} → statement M
+run-leaves-spec =
+    tie.close
+    (tie.spec
+    Inv-loop
+    μ-loop
+    loop-holds
+    (λ c. search needs)
+    (λ c. search needs)
+    (λ c. search needs)
+    (λ c κs. search needs)
+    (λ c κs. search needs)
+    run-leaf-requires
+    (λ c. search needs)
+    (λ c. search needs)
+    (λ c. search needs)
+    (λ c. search needs)
+    loop-again
+    returns)

@@ -1,6 +1,7 @@
 pub mod Buffered
 pub mod Cleaned
 pub mod OneShot
+pub mod Plain
 pub mod Pushes
 pub mod Ranges
 pub mod Rows

@@ -1,18 +1,19 @@
--- A state's digest has the length that was asked for.
+-- A state's digest has the length that was asked for; a whole one, also a tree's, has 64 bytes.
 -- Assumes nothing.
 use mathlib.Core.Path.{_≡_, refl, ap, _∙_}
 use mathlib.Core.Bool.{Bool, true, false}
 use mathlib.Core.List.{List}
 use Prim.Native.Nat.{ℕ, _≤_}
 use native.Mathlib.Omega.{arith}
-use lib.ListN.{length}
+use lib.ListN.{length, take}
 use lib.Seq.{length-take-le}
 use Rattle.definitions.specs.Family.{BLAKE2b}
 use Rattle.definitions.specs.Compress.{F}
-use Rattle.definitions.specs.Hash.{compress, stateBytes}
+use Rattle.definitions.specs.Hash.{Parameters, start, compress, stateBytes, untruncated}
 use Rattle.laws.specs.Chain.{through, ended}
 use Rattle.laws.specs.Blocks.{onBytes, throughBlocks}
 use Rattle.laws.proofs.Bytes.{length-flat}
+use Rattle.laws.proofs.Calls.{untruncated-through}
 use Rattle.numbers.specs.Numbers.{accepted, bad-record}
 use Rattle.hash.specs.Hash.{isDigestLength, digestOf}
 use Rattle.blake2b.specs.State.{pending, stateInRange, closedDigest, finalized}
@@ -24,6 +25,11 @@ use Rattle.blake2b.proofs.Ranges.{in-range}
 length-through : (w : List ℕ) (t : ℕ) (last node : Bool) (d : List ℕ) → length (stateBytes BLAKE2b (throughBlocks BLAKE2b 128 w t last node d)) ≡ 64
 unfolding stateBytes through ended onBytes compress F
 length-through w t last node d = length-flat 8 (throughBlocks BLAKE2b 128 w t last node d)
+
+pub length-whole : (p : Parameters) (node : Bool) (d : List ℕ) → length (take 64 (untruncated BLAKE2b p node d)) ≡ 64
+length-whole p node d =
+    let l = ap length (untruncated-through BLAKE2b (omega arith) p node d) ∙ length-through (start BLAKE2b p) 0 true node d in
+    length-take-le 64 (untruncated BLAKE2b p node d) (omega arith)
 
 pub length-closed-digest : (s : State) → s .«hash_length» ≤ 64 → length (closedDigest s) ≡ s .«hash_length»
 length-closed-digest s h =

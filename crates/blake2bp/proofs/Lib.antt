@@ -3,6 +3,7 @@ pub mod Cleaned
 pub mod MessageCount
 pub mod OneShot
 pub mod Pieces
+pub mod Plain
 pub mod Ranges
 pub mod Rows
 pub mod RunCases

@@ -13,12 +13,12 @@ use Rattle.definitions.specs.Hash.{blake2}
 use Rattle.numbers.specs.Numbers.{limit}
 use Rattle.hash.specs.Hash.{hexOf}
 use Rattle.hash.proofs.Digests.{length-hex}
+use Rattle.blake2b.proofs.Plain.{length-of-digest}
 use Rattle.report_text.specs.Ascii.{ascii}
 use Rattle.report_text.specs.Lines.{decimal, spelled, line, lengthLines, fiveLines, unreadable}
 use Rattle.report_text.specs.Reads.{Read, bytesOf, noneFailed, reported, printed}
 use Rattle.report_text.proofs.Appending.{length-line}
 use Rattle.report_text.proofs.Decimals.{at-most-twenty}
-use Rattle.report_text.proofs.Reading.{length-of-digest}
 
 length-lengths : length (lengthLines 64 0) ≡ 40
 unfolding lengthLines line spelled
@@ -40,7 +40,7 @@ length-reported m few =
     let c : length count ≡ 5 + length (decimal (length m)) + 2 = length-line (ascii "count") (decimal (length m)) in
     let e : length digest ≡ 6 + length (hexOf d) + 2 = length-line (ascii "digest") (hexOf d) in
     let h = length-hex d in
-    let w = length-of-digest m few in
+    let w = length-of-digest m in
     let t = at-most-twenty (length m) (omega arith) in
     omega (arith, a, b, l, c, e, h, w, t)
 

@@ -2,42 +2,30 @@
 -- or more came than a total may be. So how reads are cut has no effect. Assumes nothing.
 use mathlib.Core.Path.{_≡_, refl, sym, ap, subst, _∙_}
 use mathlib.Core.Bool.{Bool, true, false, cond, _&&_, and-true, and-false}
-use mathlib.Core.List.{List, [], _∷_, _++_, foldl, append-nil, append-assoc}
+use mathlib.Core.List.{List, [], _∷_, _++_, append-nil, append-assoc}
 use Prim.Native.Nat.{ℕ, _+_, _<_, _≤_}
 use native.Mathlib.Omega.{arith}
 use borrow.Author.Tests.{le-leb, lt-leb, leb-true, leb-false}
 use lib.Dec.{leb, eqb}
-use lib.ListN.{length, take, length-append}
-use Rattle.definitions.specs.Words.{pad}
+use lib.ListN.{length, length-append}
 use Rattle.definitions.specs.Family.{BLAKE2b}
-use Rattle.definitions.specs.Hash.{sequential, parameterBlock, start, keyed, calls, compress, stateBytes, untruncated, hash, blake2}
-use Rattle.laws.specs.Chain.{zeros}
+use Rattle.definitions.specs.Hash.{keyed, blake2}
 use Rattle.numbers.specs.Numbers.{accepted, total-over, limit}
 use Rattle.hash.specs.Hash.{digestOf}
-use Rattle.blake2b.specs.Params.{defaults, asked, front}
-use Rattle.blake2b.specs.State.{pushed, stateInRange, fresh, updated, finalized, counted, closedDigest}
+use Rattle.blake2b.specs.Params.{defaults}
+use Rattle.blake2b.specs.State.{pushed, stateInRange, fresh, updated, finalized, counted}
 use Rattle.numbers.specs.Row.{Answer}
 use Rattle.numbers.specs.Row as row
 use Rattle.blake2b.specs.declared.state.State.{State}
 use Rattle.blake2b.specs.declared.state.StateAnswer.{StateAnswer}
 use Rattle.blake2b.proofs.Cleaned.{good-defaults}
-use Rattle.hash.proofs.Digests.{digest-of-hash}
+use Rattle.blake2b.proofs.Plain.{hash-plain, length-of-digest, plain-within}
 use Rattle.blake2b.proofs.Pushes.{sound-fresh}
 use Rattle.blake2b.proofs.Rows.{pushed-none, range-reached, says-digest, says-count, updated-accepted, updated-refused}
-use Rattle.blake2b.proofs.Sizes.{length-closed-digest}
 use Rattle.report_text.specs.Lines.{fiveLines, unreadable}
 use Rattle.report_text.specs.Reads.{Read, piece, failure, afterReads, bytesOf, noneFailed, reported, printed}
 use Rattle.report_text.specs.Report.{begun, taken, linesOf, wrote, writtenOver, textAnswered, textOver}
 use Rattle.report_text.specs.declared.report.Report.{Report}
-
--- the default parameters ask for RFC 7693's hash
-start-plain : start BLAKE2b (asked defaults) ≡ start BLAKE2b (sequential 64 0)
-unfolding start parameterBlock pad zeros
-start-plain = refl
-
-hash-plain : (m : List ℕ) → hash BLAKE2b (asked defaults) false [] m ≡ blake2 BLAKE2b 64 [] m
-unfolding hash untruncated
-hash-plain m = ap (λ (h : List ℕ). take 64 (stateBytes BLAKE2b (foldl (compress BLAKE2b) h (calls BLAKE2b false (keyed BLAKE2b [] m))))) start-plain
 
 -- the state of some bytes, and a report that holds it
 abbrev reached : List ℕ → State
@@ -61,25 +49,17 @@ count-told (row.digested n d) = 0
 count-told (row.counted n k) = k
 
 module _ (bs : List ℕ) (few : length bs ≤ limit) where
-  within : length (front defaults) + length bs ≤ limit
-  unfolding front
-  within = omega arith
-
   in-range : stateInRange (reached bs) ≡ true
-  in-range = range-reached defaults (good-defaults .clean) (good-defaults .ranged) bs within
+  in-range = range-reached defaults (good-defaults .clean) (good-defaults .ranged) bs (plain-within bs few)
 
   digest-is : digestOf (finalized (reached bs) .hash) ≡ blake2 BLAKE2b 64 [] bs
-  digest-is = ap digest-told (says-digest defaults (good-defaults .clean) (good-defaults .ranged) bs within) ∙ hash-plain bs
+  digest-is = ap digest-told (says-digest defaults (good-defaults .clean) (good-defaults .ranged) bs (plain-within bs few)) ∙ hash-plain bs
 
   count-is : counted (reached bs) .count ≡ length bs
-  count-is = ap count-told (says-count defaults (good-defaults .clean) (good-defaults .ranged) bs within)
+  count-is = ap count-told (says-count defaults (good-defaults .clean) (good-defaults .ranged) bs (plain-within bs few))
 
   length-is : length (digestOf (finalized (reached bs) .hash)) ≡ 64
-  unfolding finalized
-  length-is = rw in-range (ap length (digest-of-hash (closedDigest (reached bs))) ∙ length-closed-digest (reached bs) (omega arith))
-
-  pub length-of-digest : length (blake2 BLAKE2b 64 [] bs) ≡ 64
-  length-of-digest = sym (ap length digest-is) ∙ length-is
+  length-is = ap length digest-is ∙ length-of-digest bs
 
   lines-reached : linesOf (holding bs true) ≡ reported bs
   unfolding linesOf
@@ -88,11 +68,11 @@ module _ (bs : List ℕ) (few : length bs ≤ limit) where
   -- a piece that the state takes, and one that it does not
   accepts : (a : List ℕ) → leb (length bs + length a) limit ≡ true → updated (reached bs) a ≡ record { number = accepted; state = reached (bs ++ a) }
   unfolding keyed
-  accepts a e = updated-accepted defaults (good-defaults .clean) (good-defaults .ranged) bs within a e
+  accepts a e = updated-accepted defaults (good-defaults .clean) (good-defaults .ranged) bs (plain-within bs few) a e
 
   refuses : (a : List ℕ) → leb (length bs + length a) limit ≡ false → updated (reached bs) a ≡ record { number = total-over; state = reached bs }
   unfolding keyed
-  refuses a e = updated-refused defaults (good-defaults .clean) (good-defaults .ranged) bs within a e
+  refuses a e = updated-refused defaults (good-defaults .clean) (good-defaults .ranged) bs (plain-within bs few) a e
 
   take-accepted : (w : Bool) (a : List ℕ) → leb (length bs + length a) limit ≡ true → taken (holding bs w) a ≡ holding (bs ++ a) w
   take-accepted w a e =

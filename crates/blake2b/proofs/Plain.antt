@@ -1,0 +1,48 @@
+-- The default parameters ask for RFC 7693's plain hash: no key, and 64 bytes of digest, one-shot and through a state alike.
+-- Assumes nothing.
+use mathlib.Core.Path.{_≡_, refl, sym, ap, _∙_}
+use mathlib.Core.Bool.{false}
+use mathlib.Core.List.{List, [], foldl}
+use Prim.Native.Nat.{ℕ, _+_, _≤_}
+use native.Mathlib.Omega.{arith}
+use lib.ListN.{length, take}
+use Rattle.definitions.specs.Words.{pad}
+use Rattle.definitions.specs.Family.{BLAKE2b}
+use Rattle.definitions.specs.Hash.{sequential, parameterBlock, start, keyed, calls, compress, stateBytes, untruncated, hash, blake2}
+use Rattle.laws.specs.Chain.{zeros}
+use Rattle.numbers.specs.Numbers.{limit}
+use Rattle.hash.specs.Hash.{hashOf}
+use Rattle.hash.specs.declared.HashAnswer.{HashAnswer}
+use Rattle.blake2b.specs.Params.{defaults, asked, front}
+use Rattle.blake2b.specs.State.{fresh, updated, finalized, digest}
+use Rattle.blake2b.proofs.Cleaned.{good-defaults}
+use Rattle.blake2b.proofs.OneShot.{hashed-defaults}
+use Rattle.blake2b.proofs.Rows.{digest-is-hash, one-shot-is-incremental}
+use Rattle.blake2b.proofs.Sizes.{length-whole}
+
+start-plain : start BLAKE2b (asked defaults) ≡ start BLAKE2b (sequential 64 0)
+unfolding start parameterBlock pad zeros
+start-plain = refl
+
+pub hash-plain : (m : List ℕ) → hash BLAKE2b (asked defaults) false [] m ≡ blake2 BLAKE2b 64 [] m
+unfolding hash untruncated
+hash-plain m = ap (λ (h : List ℕ). take 64 (stateBytes BLAKE2b (foldl (compress BLAKE2b) h (calls BLAKE2b false (keyed BLAKE2b [] m))))) start-plain
+
+pub length-of-digest : (m : List ℕ) → length (blake2 BLAKE2b 64 [] m) ≡ 64
+unfolding hash
+length-of-digest m = length-whole (sequential 64 0) false (keyed BLAKE2b [] m)
+
+pub digest-plain : (m : List ℕ) → digest defaults m ≡ blake2 BLAKE2b 64 [] m
+digest-plain m = digest-is-hash defaults (good-defaults .clean) m ∙ hash-plain m
+
+module _ (m : List ℕ) (few : length m ≤ limit) where
+  -- there is no key block
+  pub plain-within : length (front defaults) + length m ≤ limit
+  unfolding front
+  plain-within = omega arith
+
+  -- a fresh state, one update, and then the digest
+  pub finalized-plain : finalized (updated (fresh defaults) m .state) .hash ≡ hashOf (blake2 BLAKE2b 64 [] m)
+  finalized-plain =
+      ap (λ (a : HashAnswer). a .hash) (sym (one-shot-is-incremental defaults (good-defaults .clean) (good-defaults .ranged) m plain-within) ∙ hashed-defaults m few)
+      ∙ ap hashOf (digest-plain m)

@@ -1,0 +1,20 @@
+-- The default parameters ask for the paper's plain tree: no key, and 64 bytes of digest.
+-- Assumes nothing.
+use mathlib.Core.Path.{_≡_, refl}
+use mathlib.Core.Bool.{true}
+use mathlib.Core.List.{List, [], flatMap}
+use Prim.Native.Nat.{ℕ}
+use lib.ListN.{length}
+use Rattle.definitions.specs.Words.{from}
+use Rattle.definitions.specs.Family.{BLAKE2b}
+use Rattle.definitions.specs.Tree.{parameters, leaf, parallel, BLAKE2bp}
+use Rattle.blake2b.proofs.Sizes.{length-whole}
+use Rattle.blake2bp.specs.Params.{defaults}
+use Rattle.blake2bp.specs.State.{digest}
+
+pub digest-plain : (m : List ℕ) → digest defaults m ≡ BLAKE2bp 64 [] m
+digest-plain m = refl
+
+pub length-of-digest : (m : List ℕ) → length (BLAKE2bp 64 [] m) ≡ 64
+unfolding parallel
+length-of-digest m = length-whole (parameters BLAKE2b 4 64 0 0 1) true (flatMap (leaf BLAKE2b 4 64 [] m) (from 0 4))

@@ -23,7 +23,8 @@ use Rattle.hash.specs.declared.HashAnswer.{HashAnswer}
 use Rattle.blake2b.specs.declared.params.Params.{Params}
 use Rattle.blake2b.specs.declared.state.StateAnswer.{StateAnswer}
 use Rattle.blake2b.proofs.Pushes.{sound-fresh, range-fresh, range-pushed, digest-pushed}
-use Rattle.blake2b.proofs.States.{last-node-is, made-hash}
+use Rattle.hash.proofs.Digests.{made-hash}
+use Rattle.blake2b.proofs.States.{last-node-is}
 
 -- parameters in range ask for a digest length
 pub digest-asked : (p : Params) → inRange p ≡ true → isDigestLength (p .«hash_length») ≡ true

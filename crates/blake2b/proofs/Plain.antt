@@ -6,10 +6,12 @@ use mathlib.Core.List.{List, [], foldl}
 use Prim.Native.Nat.{ℕ, _+_, _≤_}
 use native.Mathlib.Omega.{arith}
 use lib.ListN.{length, take}
+use lib.Seq.{length-take-le}
 use Rattle.definitions.specs.Words.{pad}
 use Rattle.definitions.specs.Family.{BLAKE2b}
 use Rattle.definitions.specs.Hash.{sequential, parameterBlock, start, keyed, calls, compress, stateBytes, untruncated, hash, blake2}
 use Rattle.laws.specs.Chain.{zeros}
+use Rattle.laws.proofs.Sizes.{length-whole}
 use Rattle.numbers.specs.Numbers.{limit}
 use Rattle.hash.specs.Hash.{hashOf}
 use Rattle.hash.specs.declared.HashAnswer.{HashAnswer}
@@ -18,7 +20,6 @@ use Rattle.blake2b.specs.State.{fresh, updated, finalized, digest}
 use Rattle.blake2b.proofs.Cleaned.{good-defaults}
 use Rattle.blake2b.proofs.OneShot.{hashed-defaults}
 use Rattle.blake2b.proofs.Rows.{digest-is-hash, one-shot-is-incremental}
-use Rattle.blake2b.proofs.Sizes.{length-whole}
 
 start-plain : start BLAKE2b (asked defaults) ≡ start BLAKE2b (sequential 64 0)
 unfolding start parameterBlock pad zeros
@@ -30,7 +31,9 @@ hash-plain m = ap (λ (h : List ℕ). take 64 (stateBytes BLAKE2b (foldl (compre
 
 pub length-of-digest : (m : List ℕ) → length (blake2 BLAKE2b 64 [] m) ≡ 64
 unfolding hash
-length-of-digest m = length-whole (sequential 64 0) false (keyed BLAKE2b [] m)
+length-of-digest m =
+    let whole = length-whole BLAKE2b (omega arith) (sequential 64 0) false (keyed BLAKE2b [] m) in
+    length-take-le 64 (untruncated BLAKE2b (sequential 64 0) false (keyed BLAKE2b [] m)) (omega arith)
 
 pub digest-plain : (m : List ℕ) → digest defaults m ≡ blake2 BLAKE2b 64 [] m
 digest-plain m = digest-is-hash defaults (good-defaults .clean) m ∙ hash-plain m

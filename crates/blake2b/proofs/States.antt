@@ -28,6 +28,7 @@ use Rattle.blake2b.specs.Params.{inRange, asked, front}
 use Rattle.hash.specs.declared.HashAnswer.{HashAnswer}
 use Rattle.blake2b.specs.State.{core, holding, machine, pending, moved, pushed, total, stateInRange, zeroState, fresh, opened, updated, withLastNode, lastNodeSet, lastNodeOf, finalized, counted}
 use Rattle.blake2b.specs.declared.params.Params.{Params}
+use Rattle.hash.proofs.Digests.{made-hash}
 use Rattle.blake2b.specs.declared.state.State.{State}
 
 abbrev pub lawful : Lawful machine
@@ -130,11 +131,6 @@ module _ (p : Params) {good : Bool} (e : good ≡ inRange p) {s : State} where
 pub last-node-is : (up : Bool) → isLastNode (lastNodeOf up) ≡ up
 last-node-is true = refl
 last-node-is false = refl
-
--- a digest that is asked of words, of a length that is in range
-pub made-hash : (n : ℕ) (d : List ℕ) {r : HashAnswer} → isDigestLength n ≡ true → r ≡ madeFrom d n → r ≡ record { number = accepted; hash = hashOf (take n d) }
-unfolding madeFrom
-made-hash n d e f = f ∙ rw e
 
 module _ (s : State) {good : Bool} (e : good ≡ stateInRange s) {r : HashAnswer} where
   pub finalized-bad : not good ≡ true → r ≡ noHash bad-record → r ≡ finalized s

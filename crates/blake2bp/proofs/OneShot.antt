@@ -19,7 +19,7 @@ use Rattle.laws.proofs.Trees.{row-none, rooted-is-tree}
 use Rattle.numbers.specs.Numbers.{accepted, total-over, bad-record, limit}
 use Rattle.hash.specs.Hash.{hashOf, noHash, madeFrom}
 use Rattle.hash.specs.declared.HashAnswer.{HashAnswer}
-use Rattle.blake2b.proofs.States.{made-hash}
+use Rattle.hash.proofs.Digests.{made-hash}
 use Rattle.leaves.specs.Leaves.{leafOf, wordsOf, onLeaf}
 use Rattle.blake2bp.specs.Params.{defaults, inRange, keyOf}
 use Rattle.blake2bp.specs.State.{pushed, total, stateInRange, keyBytes, fresh, updated, finalized, digest, hashed}

@@ -4,11 +4,14 @@ use mathlib.Core.Path.{_≡_, refl}
 use mathlib.Core.Bool.{true}
 use mathlib.Core.List.{List, [], flatMap}
 use Prim.Native.Nat.{ℕ}
+use native.Mathlib.Omega.{arith}
 use lib.ListN.{length}
+use lib.Seq.{length-take-le}
 use Rattle.definitions.specs.Words.{from}
 use Rattle.definitions.specs.Family.{BLAKE2b}
+use Rattle.definitions.specs.Hash.{untruncated}
 use Rattle.definitions.specs.Tree.{parameters, leaf, parallel, BLAKE2bp}
-use Rattle.blake2b.proofs.Sizes.{length-whole}
+use Rattle.laws.proofs.Sizes.{length-whole}
 use Rattle.blake2bp.specs.Params.{defaults}
 use Rattle.blake2bp.specs.State.{digest}
 
@@ -17,4 +20,7 @@ digest-plain m = refl
 
 pub length-of-digest : (m : List ℕ) → length (BLAKE2bp 64 [] m) ≡ 64
 unfolding parallel
-length-of-digest m = length-whole (parameters BLAKE2b 4 64 0 0 1) true (flatMap (leaf BLAKE2b 4 64 [] m) (from 0 4))
+length-of-digest m =
+    let states = flatMap (leaf BLAKE2b 4 64 [] m) (from 0 4) in
+    let whole = length-whole BLAKE2b (omega arith) (parameters BLAKE2b 4 64 0 0 1) true states in
+    length-take-le 64 (untruncated BLAKE2b (parameters BLAKE2b 4 64 0 0 1) true states) (omega arith)

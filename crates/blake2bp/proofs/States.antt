@@ -22,7 +22,7 @@ use Rattle.laws.proofs.TwoRows.{both-gone, half-gone}
 use Rattle.numbers.specs.Numbers.{accepted, total-over, bad-record, limit}
 use Rattle.hash.specs.Hash.{isDigestLength, noHash, madeFrom}
 use Rattle.hash.specs.declared.HashAnswer.{HashAnswer}
-use Rattle.blake2b.proofs.States.{made-hash}
+use Rattle.hash.proofs.Digests.{made-hash}
 use Rattle.leaves.specs.Leaves.{wordsOf, onLeaf}
 use Rattle.blake2bp.specs.Params.{inRange}
 use Rattle.blake2bp.specs.State.{core, holding, machine, pending, moved, pushed, total, keyRow, stateInRange, zeroState, fresh, opened, updated, finalized, counted, leafCounted, bufferedIn}

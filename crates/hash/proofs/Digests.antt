@@ -15,6 +15,7 @@ use Rattle.laws.proofs.Bytes.{pad-whole}
 use Rattle.numbers.specs.Numbers.{accepted, digest-length, output-short, bad-record}
 use Rattle.hash.specs.Hash.{isDigestLength, hashInRange, hashOf, digestOf, zeroHash, noHash, madeFrom, lengthAnswered, sameBytes, compared, hexOf, mayWrite, writtenAnswered, writtenOver, writtenPart}
 use Rattle.hash.specs.declared.Hash.{Hash}
+use Rattle.hash.specs.declared.HashAnswer.{HashAnswer}
 use Rattle.hash.specs.declared.LengthAnswer.{LengthAnswer}
 
 pub digest-length-is : (n : ℕ) → 1 ≤ n → n ≤ 64 → isDigestLength n ≡ true
@@ -34,6 +35,11 @@ zero-not-in-range = refl
 pub digest-of-hash : (d : List ℕ) → digestOf (hashOf d) ≡ d
 unfolding pad
 digest-of-hash d = take-append-seam d (replicate (64 - length d) 0)
+
+-- a digest that is asked of words, of a length that is in range
+pub made-hash : (n : ℕ) (d : List ℕ) {r : HashAnswer} → isDigestLength n ≡ true → r ≡ madeFrom d n → r ≡ record { number = accepted; hash = hashOf (take n d) }
+unfolding madeFrom
+made-hash n d e f = f ∙ rw e
 
 -- sameBytes answers yes exactly where the lists are equal
 same-self : (s : List ℕ) → sameBytes s s ≡ true

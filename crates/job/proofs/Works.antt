@@ -15,7 +15,7 @@ use Rattle.hash.specs.Hash.{isDigestLength, noHash, madeFrom}
 use Rattle.blake2b.specs.Params.{asked}
 use Rattle.hash.specs.declared.HashAnswer.{HashAnswer}
 use Rattle.blake2b.specs.declared.params.Params.{Params}
-use Rattle.blake2b.proofs.States.{made-hash}
+use Rattle.hash.proofs.Digests.{made-hash}
 use Rattle.job.specs.Work.{workInRange, finishedAtOnce, keyBytes, firstWords, begun, ran, runOn, workHash}
 use Rattle.job.specs.declared.work.Work.{Work}
 

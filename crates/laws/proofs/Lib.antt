@@ -8,6 +8,7 @@ pub mod Chains
 pub mod Fronts
 pub mod Shares
 pub mod Calls
+pub mod Sizes
 pub mod Offsets
 pub mod Buffers
 pub mod Serial

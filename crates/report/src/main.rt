@@ -2,37 +2,14 @@
 // The lines are crate report_text's; here the input is read to its end, and one write follows.
 use libc::STDIN_FILENO;
 use libc::STDOUT_FILENO;
+use report_text::Reading;
 use report_text::Report;
 
-// The report so far, and whether there may be more to read.
-struct Reading {
-    report: Report,
-    more: bool,
-}
-
-// One read.
+// One read. What is made of its answer is the library's.
 fn read_some(reading: Reading, space: &mut [u8]) -> Reading {
     let report = reading.report;
     let got = libc::read(STDIN_FILENO, space);
-    if got < 0 {
-        let failed = report.fail();
-        return Reading {
-            report: failed,
-            more: false,
-        };
-    }
-    if got == 0 {
-        return Reading {
-            report,
-            more: false,
-        };
-    }
-    let n = io::count(got, space);
-    let taken = report.take(&space[..n]);
-    Reading {
-        report: taken,
-        more: true,
-    }
+    report.read(got, space)
 }
 
 // A proved loop has to end, and nothing says that the input does: no run has so many turns.
@@ -69,7 +46,7 @@ fn front<'a>(bytes: &'a [u8], n: usize) -> &'a [u8] {
 fn main() {
     let mut space = io::large_buffer();
     let report = read_all(&mut space);
-    let mut text = [0u8; Report::LONGEST];
+    let mut text = [0u8; Report::ROOM];
     let answer = report.text(&mut text);
     io::write_all(STDOUT_FILENO, front(&text, answer.length));
 }

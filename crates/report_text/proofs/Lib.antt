@@ -5,3 +5,4 @@ pub mod Longest
 pub mod Reading
 pub mod Reports
 pub mod Unique
+pub mod Readings

@@ -1,4 +1,4 @@
--- The longest text has 203 bytes: an output of that length takes the report of any input.
+-- The longest text has 203 bytes: an output of that length, and so one of `Report::ROOM`, takes the report of any input.
 -- Assumes nothing.
 use mathlib.Core.Path.{_≡_, refl}
 use mathlib.Core.Bool.{Bool, true, false, cond, _&&_, and-eq-true-iff}

@@ -6,6 +6,7 @@ use Rattle.hash.proofs.Unique.{unique}
 use Rattle.report_text.proofs.report.Report.new.Reads as report-new
 use Rattle.report_text.proofs.report.Report.take.Reads as report-take
 use Rattle.report_text.proofs.report.Report.fail.Reads as report-fail
+use Rattle.report_text.proofs.report.Report.read.Reads as report-read
 use Rattle.report_text.proofs.report.Report.text.Reads as report-text
 
 pub report-new-unique : (κs : _) (args : _) (r q : _) (exit : _) → report-new.Post κs args r exit → report-new.Post κs args q exit → r ≡ q
@@ -16,6 +17,9 @@ report-take-unique κs args r q exit e f = unique e f
 
 pub report-fail-unique : (κs : _) (args : _) (r q : _) (exit : _) → report-fail.Post κs args r exit → report-fail.Post κs args q exit → r ≡ q
 report-fail-unique κs args r q exit e f = unique e f
+
+pub report-read-unique : (κs : _) (args : _) (r q : _) (exit : _) → report-read.Post κs args r exit → report-read.Post κs args q exit → r ≡ q
+report-read-unique κs args r q exit e f = unique e f
 
 pub report-text-unique : (κs : _) (args : _) (r q : _) (x y : _) → report-text.Post κs args r x → report-text.Post κs args q y → (r ≡ q) × (now (x .1 .0) ≡ now (y .1 .0))
 report-text-unique κs args r q x y e f = (unique (e .0) (f .0), unique (e .1) (f .1))

@@ -2,9 +2,10 @@
 -- Assumes nothing.
 use mathlib.Core.Bool.{Bool, true, false, cond, _&&_}
 use mathlib.Core.List.{List, [], _∷_, _++_}
-use Prim.Native.Nat.{ℕ}
+use Prim.Native.Nat.{ℕ, zero, suc}
 use lib.Dec.{leb}
-use lib.ListN.{length}
+use lib.IntN.{ℤ, pos, negsuc}
+use lib.ListN.{length, take}
 use Rattle.definitions.specs.Family.{BLAKE2b}
 use Rattle.definitions.specs.Hash.{blake2}
 use Rattle.numbers.specs.Numbers.{limit}
@@ -24,6 +25,12 @@ afterRead r failure = failed r
 unfoldable pub afterReads : Report → List Read → Report
 afterReads r [] = r
 afterReads r (x ∷ xs) = afterReads (afterRead r x) xs
+
+-- what came by a read of the machine's, which answered a number and left bytes in a buffer: at the end of the input, nothing
+abbrev pub came : ℤ → List ℕ → List Read
+came (negsuc n) buffer = failure ∷ []
+came (pos zero) buffer = []
+came (pos (suc n)) buffer = piece (take (suc n) buffer) ∷ []
 
 -- all bytes that came, whatever the pieces
 unfoldable pub bytesOf : List Read → List ℕ

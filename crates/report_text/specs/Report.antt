@@ -2,9 +2,10 @@
 -- Assumes nothing.
 use mathlib.Core.Bool.{true, false, cond, _&&_}
 use mathlib.Core.List.{List}
-use Prim.Native.Nat.{ℕ}
+use Prim.Native.Nat.{ℕ, zero, suc}
 use lib.Dec.{leb, eqb}
-use lib.ListN.{length}
+use lib.IntN.{ℤ, pos, negsuc}
+use lib.ListN.{length, take}
 use Rattle.laws.specs.Buffer.{over}
 use Rattle.numbers.specs.Numbers.{accepted, output-short, bad-record}
 use Rattle.hash.specs.Hash.{digestOf}
@@ -12,6 +13,7 @@ use Rattle.blake2b.specs.Params.{defaults}
 use Rattle.blake2b.specs.State.{stateInRange, fresh, updated, finalized, counted}
 use Rattle.hash.specs.declared.LengthAnswer.{LengthAnswer}
 use Rattle.report_text.specs.Lines.{fiveLines, unreadable}
+use Rattle.report_text.specs.declared.report.Reading.{Reading}
 use Rattle.report_text.specs.declared.report.Report.{Report}
 
 -- nothing was read
@@ -25,6 +27,12 @@ taken r a = record { state = updated (r .state) a .state; readable = r .readable
 -- a read failed
 abbrev pub failed : Report → Report
 failed r = record { state = r .state; readable = false }
+
+-- what a read to the front of a buffer answered: less than 0 where it failed, 0 at the end of the input, else a number of bytes
+unfoldable pub afterReading : Report → ℤ → List ℕ → Reading
+afterReading r (negsuc n) buffer = record { report = failed r; more = false }
+afterReading r (pos zero) buffer = record { report = r; more = false }
+afterReading r (pos (suc n)) buffer = record { report = taken r (take (suc n) buffer); more = true }
 
 -- the text of a report, where its state is in range
 unfoldable pub linesOf : Report → List ℕ

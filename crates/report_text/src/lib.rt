@@ -3,4 +3,5 @@
 mod lines;
 mod report;
 
+pub use report::Reading;
 pub use report::Report;

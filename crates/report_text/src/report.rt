@@ -6,6 +6,7 @@ use crate::lines::put_number;
 use blake2b::State;
 use hash::Hash;
 use hash::LengthAnswer;
+use io::count;
 use numbers::ACCEPTED;
 use numbers::OUTPUT;
 use numbers::RECORD;
@@ -17,12 +18,18 @@ ghost use Rattle.hash.specs.Hash.{hashInRange, digestOf, hexOf};
 ghost use Rattle.blake2b.specs.State.{stateInRange};
 ghost use Rattle.report_text.specs.Ascii.{ascii};
 ghost use Rattle.report_text.specs.Lines.{line, lengthLines, fiveLines, Appends};
-ghost use Rattle.report_text.specs.Report.{begun, taken, failed, linesOf, wrote, writtenOver, textAnswered, textOver};
+ghost use Rattle.report_text.specs.Report.{begun, taken, failed, afterReading, linesOf, wrote, writtenOver, textAnswered, textOver};
 
 pub struct Report {
     pub(crate) state: State,
     // No read failed, and the state refused no piece.
     pub(crate) readable: bool,
+}
+
+// A report after a read, and whether there may be more to read.
+pub struct Reading {
+    pub report: Report,
+    pub more: bool,
 }
 
 fn put_digest(out: &mut [u8], at: usize, hash: Hash) -> usize
@@ -74,8 +81,8 @@ fn write(text: &[u8], out: &mut [u8]) -> LengthAnswer
 }
 
 impl Report {
-    // The longest text, in bytes.
-    pub const LONGEST: usize = 203;
+    // An output of so many bytes has room for every text.
+    pub const ROOM: usize = 256;
 
     pub fn new() -> Self
         ensures { λ r. ⌜ r ≡ begun ⌝ }
@@ -110,6 +117,28 @@ impl Report {
         }
     }
 
+    // What a read to the front of a buffer answered: a number of bytes, 0 at the end of the input, or less where it failed.
+    pub fn read(self, got: isize, buffer: &[u8]) -> Reading
+        ensures { λ r. ⌜ r ≡ afterReading self got (now (buffer .entry)) ⌝ }
+    {
+        if got < 0 {
+            let report = self.fail();
+            return Reading {
+                report,
+                more: false,
+            };
+        }
+        if got == 0 {
+            return Reading {
+                report: self,
+                more: false,
+            };
+        }
+        let n = count(got, buffer);
+        let report = self.take(&buffer[..n]);
+        Reading { report, more: true }
+    }
+
     fn lines(self, out: &mut [u8]) -> usize
         requires { ⌜ (stateInRange (self .state) ≡ true) × (length (now out) ≡ 256) ⌝ }
         ensures { λ r. ⌜ Appends (now (out .entry)) 0 (linesOf self) (now (out .exit)) r ⌝ }
@@ -135,7 +164,7 @@ impl Report {
                 length: 0,
             };
         }
-        let mut text = [0u8; 256];
+        let mut text = [0u8; Report::ROOM];
         let n = self.lines(&mut text);
         write(&text[..n], out)
     }

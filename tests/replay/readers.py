@@ -134,16 +134,17 @@ def drawn():
 # The flag of a state is its own.
 def states():
     note("a state keeps its ranges through all calls, but for the zero state, and leaves the parameters as they are")
-    for key in b"", b"\1", b"\xff" * 64:
+    for key, is_last in (b"", False), (b"\1", True), (b"\xff" * 64, False):
         parameters = Parameters()
         parameters.set("key", key)
+        parameters.set("last_node", is_last)
         for opened in "new", "open":
             say("state " + opened)
             ask("state in_range", True)
             for length in 0, 1, 127, 1, 127, 128, 129, 1000:
                 say("state update c:%d:0" % length)
                 ask("state in_range", True)
-                say("state set_last_node 1")
+                say("state set_last_node %d" % (not is_last))
                 ask("state in_range", True)
             parameters.ask_all()
         say("state zero")
@@ -218,8 +219,9 @@ def parallel_records():
     note("BLAKE2bp: parameters keep their ranges through all calls, and a state too, but for the zero state")
     say("bp params new")
     for key in b"", b"\1", bytes(32), b"\xff" * 64, b"\2", b"":
-        say("bp params key " + hexadecimal(key))
-        say("bp params hash_length %d" % (len(key) or 64))
+        for line in "key " + hexadecimal(key), "hash_length %d" % (len(key) or 64):
+            say("bp params " + line)
+            ask("bp params in_range", True)
         for opened in "new", "open":
             say("bp state " + opened)
             ask_parallel(True)

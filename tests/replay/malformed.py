@@ -10,6 +10,7 @@ def malformed_lines():
     say("params new")
     say("state new")
     say("state update x:616263")
+    say("blake2b x:646566", digest_answer(hashlib.blake2b(b"def").hexdigest()))
     say("bank new")
     say("bank open 2")
     say("bank update 2 x:616263")
@@ -24,7 +25,11 @@ def malformed_lines():
                     "jobs run 1 x:00",
                     "bp", "bp state", "bp state open now", "bp state buffered ", "bp state count 1", "bp state set_last_node 1",
                     "bp params", "bp params new 1", "bp params salt x:00", "bp hashes x:00", "bp  hash x:00", "bp digest len",
-                    "BP hash x:00", "blake2bp x:00"],
+                    "BP hash x:00", "blake2bp x:00",
+                    "params in_range 1", "params is_keyed x:", "params is_last_node 1", "params digest_length 64",
+                    "params key_block ", "params to_words 8", "params in_ranges", "state in_range 0", "digest in_range 0",
+                    "digest to_words", "in_range", "bp params in_range 1", "bp state in_range 0", "bp params is_keyed",
+                    "bp params to_words", "bp digest in_range", "bp digest from_words 64 c:64:0"],
         "number": ["params fanout 256", "params max_depth -1", "params max_leaf_length 4294967296",
                    "params node_offset 18446744073709551616", "params hash_length", "params hash_length 1x",
                    "params hash_length 0x10", "params last_node 2", "state set_last_node 2",
@@ -35,7 +40,11 @@ def malformed_lines():
                    "bank piece 0 2 0 1 1", "bank update_many x:00", "bank update_lent x:00", "job new 16 0 1 x:00", "job new 2 0 x:00",
                    "job new 2  0 1 x:00", "job run x:00", "job hash 16", "job hash", "job hash 2 2",
                    "bp params hash_length", "bp params hash_length -1", "bp params hash_length x:00",
-                   "bp params hash_length 18446744073709551616"],
+                   "bp params hash_length 18446744073709551616",
+                   "digest from_words", "digest from_words c:64:0", "digest from_words -1 c:64:0",
+                   "digest from_words  64 c:64:0", "digest from_words 18446744073709551616 c:64:0",
+                   "digest is_digest_length", "digest is_digest_length -1", "digest is_digest_length x:40",
+                   "digest is_digest_length 64 64", "digest is_digest_length 18446744073709551616"],
         "message": ["hash", "hash 616263", "hash x:0", "hash x:0g", "hash x:00 00", "hash c:4194305:0", "hash c:1:256",
                     "hash c:1", "hash g:1:2147483648", "hash q:00", "hash x:00[0:2]", "hash x:0001[2:1]",
                     "hash x:0001[0:1", "hash x:0001[0:1]z", "hash x:0001[:1]", "params key x:0", "state update",
@@ -45,12 +54,16 @@ def malformed_lines():
                     "job new 2 0 1", "job new 2 0 1 1 x:00", "job run 16",
                     "job run 3 x:00[0:2]",
                     "bp hash", "bp hash 00", "bp blake2bp x:00[0:2]", "bp params key x:0", "bp state update",
-                    "bp state update c:4194305:0", "bp state update x:00 x:00"],
+                    "bp state update c:4194305:0", "bp state update x:00 x:00",
+                    "digest from_words 64", "digest from_words 64 c:63:0", "digest from_words 64 c:65:0",
+                    "digest from_words 1 x:00", "digest from_words 0 x:", "digest from_words 64 64 c:64:0",
+                    "digest from_words 64 c:64:0 64"],
         "line": ["blake2b x:" + "00" * 4091 + "0", "blake2b x:" + "00" * 20000, "# " + "-" * 8191,
                  "bank update 2 x:" + "00" * 4089, "job run 0 x:" + "00" * 4091, "bp hash x:" + "00" * 4092],
     }.items():
         for line in lines:
             say(line, "malformed " + fault)
+    say("digest equals_bytes x:" + hashlib.blake2b(b"def").hexdigest(), "number=0 equal=1")
     say("state count", "number=0 count=3")
     say("state finalize", digest_answer(hashlib.blake2b(b"abc").hexdigest()))
     say("bank count 2", "number=0 count=3")

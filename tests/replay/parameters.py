@@ -27,8 +27,12 @@ OUR_NAMES = dict(digest_size="hash_length", person="personal", depth="max_depth"
                  inner_size="inner_hash_length")
 
 
+def set_one(name, value, number=0):
+    shown = hexadecimal(value) if isinstance(value, bytes) else str(int(value))
+    say("params %s %s" % (OUR_NAMES.get(name, name), shown), "number=%d" % number)
+
+
 # Every parameter, so that nothing of the ones before is left.
 def set_all(setting, reverse=False):
     for name, value in sorted(setting.items(), reverse=reverse):
-        shown = hexadecimal(value) if isinstance(value, bytes) else str(int(value))
-        say("params %s %s" % (OUR_NAMES.get(name, name), shown))
+        set_one(name, value)

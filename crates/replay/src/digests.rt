@@ -12,6 +12,7 @@ use replay_text::part;
 use replay_text::put;
 use replay_text::put_bytes;
 use replay_text::put_number;
+use words::read_words;
 
 // The first 64 bytes.
 fn sixty_four(bytes: &[u8]) -> [u8; 64] {
@@ -20,18 +21,27 @@ fn sixty_four(bytes: &[u8]) -> [u8; 64] {
     b
 }
 
+// The words of the first 64 bytes, read as the front of a block.
+fn eight_words(bytes: &[u8]) -> [u64; 8] {
+    let mut block = [0u8; 128];
+    put(&mut block, 0, bytes);
+    let w = read_words(&block);
+    [w[0], w[1], w[2], w[3], w[4], w[5], w[6], w[7]]
+}
+
 // The answer of a call that can't refuse.
 fn made(hash: Hash) -> HashAnswer {
     HashAnswer { number: 0, hash }
 }
 
-fn digest(state: State, params: Params, row: usize, message: &[u8]) -> HashAnswer {
+fn digest(state: State, params: Params, row: usize, n: u64, message: &[u8]) -> HashAnswer {
     match row {
         table::STATE_FINALIZE => state.finalize(),
         table::HASH => params.hash(message),
         table::BLAKE2B => made(blake2b(message)),
         table::DIGEST_ZERO => made(Hash::zero()),
-        _ => made(Hash::from_bytes(sixty_four(message))),
+        table::DIGEST_FROM_BYTES => made(Hash::from_bytes(sixty_four(message))),
+        _ => Hash::from_words(eight_words(message), n as usize),
     }
 }
 
@@ -43,10 +53,10 @@ pub fn put_digest(out: &mut [u8], answer: HashAnswer) -> usize {
     put_bytes(out, answer.number, length, part(&bytes, 0, length))
 }
 
-pub fn call(session: Session, row: usize, message: &[u8], out: &mut [u8]) -> Reply {
+pub fn call(session: Session, row: usize, n: u64, message: &[u8], out: &mut [u8]) -> Reply {
     let state = session.state;
     let params = session.params;
-    let answer = digest(state, params, row, message);
+    let answer = digest(state, params, row, n, message);
     let last = answer.hash;
     let length = put_digest(out, answer);
     session.with_last(last).answered(length)

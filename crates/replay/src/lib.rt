@@ -2,6 +2,7 @@
 // Test code: safe by proof, with no promise of its own. docs/REPLAY.md has the format.
 mod digests;
 mod parameters;
+mod readers;
 mod script;
 mod session;
 mod shown;
@@ -9,6 +10,7 @@ mod states;
 mod table;
 
 pub use digests::put_digest;
+pub use readers::put_yes;
 pub use script::run_line;
 pub use session::Reply;
 pub use session::Session;

@@ -2,6 +2,7 @@
 // A line that is no call is answered with what is wrong with it, and changes nothing.
 use crate::digests;
 use crate::parameters;
+use crate::readers;
 use crate::session::Reply;
 use crate::session::Session;
 use crate::shown;
@@ -31,9 +32,10 @@ fn make(session: Session, call: Call, message: &[u8], out: &mut [u8]) -> Reply {
             message,
             out,
         ),
-        table::STATE_FINALIZE..=table::DIGEST_FROM_BYTES => digests::call(
+        table::STATE_FINALIZE..=table::DIGEST_FROM_WORDS => digests::call(
             session,
             row,
+            n,
             message,
             out,
         ),
@@ -45,6 +47,7 @@ fn make(session: Session, call: Call, message: &[u8], out: &mut [u8]) -> Reply {
             message,
             out,
         ),
+        table::PARAMS_IN_RANGE..=table::PARAMS_TO_WORDS => readers::call(session, row, n, out),
         _ => session.answered(put_fault(out, fault)),
     }
 }

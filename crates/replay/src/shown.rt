@@ -25,7 +25,7 @@ fn put_length(out: &mut [u8], answer: LengthAnswer) -> usize {
     put_field(out, answer.number, b" length=", answer.length as u64)
 }
 
-fn put_equal(out: &mut [u8], answer: EqualAnswer) -> usize {
+pub(crate) fn put_equal(out: &mut [u8], answer: EqualAnswer) -> usize {
     put_field(out, answer.number, b" equal=", answer.equal as u64)
 }
 

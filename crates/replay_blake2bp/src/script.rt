@@ -28,7 +28,7 @@ fn make(session: Session, call: Call, message: &[u8], out: &mut [u8]) -> Reply {
             message,
             out,
         ),
-        table::STATE_FINALIZE..=table::STATE_BUFFERED => shown::call(session, row, message, out),
+        table::STATE_FINALIZE..=table::STATE_IN_RANGE => shown::call(session, row, message, out),
         _ => session.answered(put_fault(out, fault)),
     }
 }

@@ -1,4 +1,4 @@
-// The calls of a script that hand back no BLAKE2bp record: digests, and what a state tells of itself.
+// The calls of a script that hand back no BLAKE2bp record: digests, and what the records tell of themselves.
 // They leave the session as it is.
 use crate::session::Reply;
 use crate::session::Session;
@@ -8,6 +8,7 @@ use blake2bp::Params;
 use blake2bp::State;
 use blake2bp::blake2bp;
 use replay::put_digest;
+use replay::put_yes;
 use replay_text::put_field;
 
 fn digest(params: Params, state: State, row: usize, message: &[u8]) -> HashAnswer {
@@ -43,6 +44,8 @@ fn show(params: Params, state: State, row: usize, message: &[u8], out: &mut [u8]
         table::STATE_COUNT => put_count(out, state),
         table::STATE_LEAF_COUNT => put_leaf_count(out, state),
         table::STATE_BUFFERED => put_buffered(out, state),
+        table::PARAMS_IN_RANGE => put_yes(out, params.in_range()),
+        table::STATE_IN_RANGE => put_yes(out, state.in_range()),
         _ => put_digest(out, digest(params, state, row, message)),
     }
 }

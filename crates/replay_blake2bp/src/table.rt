@@ -29,6 +29,10 @@ pub const STATE_LEAF_COUNT: usize = 11;
 
 pub const STATE_BUFFERED: usize = 12;
 
+pub const PARAMS_IN_RANGE: usize = 13;
+
+pub const STATE_IN_RANGE: usize = 14;
+
 pub fn read(line: &[u8], space: &mut [u8]) -> Call {
     read_line(
         line,
@@ -44,7 +48,9 @@ pub fn read(line: &[u8], space: &mut [u8]) -> Call {
           bp blake2bp:M;\
           bp state count;\
           bp state leaf_count;\
-          bp state buffered",
+          bp state buffered;\
+          bp params in_range;\
+          bp state in_range",
         space,
     )
 }

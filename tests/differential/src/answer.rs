@@ -20,6 +20,11 @@ pub fn equal(number: u8, is_equal: bool) -> String {
     format!("number={number} equal={}", u8::from(is_equal))
 }
 
+// Yes or no, of a question that can't be refused.
+pub fn yes(is_so: bool) -> String {
+    equal(rules::ACCEPTED, is_so)
+}
+
 // A batch's index is 0 where it is accepted.
 pub fn batch(number: u8, index: usize) -> String {
     format!("number={number} index={index}")

@@ -62,8 +62,7 @@ fn filled<const N: usize>(bytes: &[u8]) -> [u8; N] {
     all
 }
 
-// A key is a block in front of the message.
-pub fn blake2b_digest(setting: &Setting, message: &[u8]) -> Vec<u8> {
+fn opened(setting: &Setting) -> State {
     let param = Param {
         digest_length: setting.hash_length as u8,
         key_length: setting.key.len() as u8,
@@ -78,11 +77,21 @@ pub fn blake2b_digest(setting: &Setting, message: &[u8]) -> Vec<u8> {
         personal: filled(&setting.personal),
     };
     let mut state = EMPTY;
+    assert_eq!(unsafe { blake2b_init_param(&mut state, &param) }, 0);
+    state.last_node = setting.last_node.into();
+    state
+}
+
+pub fn start_words(setting: &Setting) -> [u64; 8] {
+    opened(setting).words
+}
+
+// A key is a block in front of the message.
+pub fn blake2b_digest(setting: &Setting, message: &[u8]) -> Vec<u8> {
+    let mut state = opened(setting);
     let key_block: [u8; BLOCK] = filled(&setting.key);
     let mut digest = vec![0; setting.hash_length];
     unsafe {
-        assert_eq!(blake2b_init_param(&mut state, &param), 0);
-        state.last_node = setting.last_node.into();
         if !setting.key.is_empty() {
             assert_eq!(blake2b_update(&mut state, key_block.as_ptr(), BLOCK), 0);
         }

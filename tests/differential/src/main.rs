@@ -24,6 +24,7 @@ mod stored;
 mod stream;
 mod sweep;
 mod tally;
+mod words;
 
 use dice::Dice;
 use mismatch::Mismatch;

@@ -4,13 +4,14 @@
 
 use crate::answer;
 use crate::bank::{Bank, Piece};
-use crate::digests::{self, Digest};
+use crate::digests::{self, Digest, Made};
 use crate::jobs::{self, Jobs};
 use crate::message::bytes_of;
 use crate::parallel::{self, of_tree, Tree, TreeSetting};
 use crate::rules;
-use crate::setting::Setting;
+use crate::setting::{self, Setting};
 use crate::stream::{Second, Stream};
+use crate::words;
 use blake2b_simd::Hash;
 
 pub struct Model {
@@ -29,6 +30,10 @@ pub struct Model {
 
 fn number(text: &str) -> u64 {
     text.parse().expect("a number")
+}
+
+fn sixty_four(text: &str) -> [u8; 64] {
+    bytes_of(text).try_into().expect("64 bytes")
 }
 
 impl Model {
@@ -51,16 +56,25 @@ impl Model {
         answer::number(rules::ACCEPTED)
     }
 
-    // It becomes the last digest.
-    fn made(&mut self, digest: Digest) -> String {
+    // It becomes the last digest, also the zeros of a refusal.
+    fn made(&mut self, number: u8, digest: Digest) -> String {
         self.last = digest;
-        digests::shown(&self.last)
+        digests::shown(number, &self.last)
+    }
+
+    fn made_by_the_crate(&mut self, hash: Hash) -> String {
+        self.made(rules::ACCEPTED, Some(Made::ByTheCrate(hash)))
+    }
+
+    fn made_of_words(&mut self, bytes: [u8; 64], length: u64) -> String {
+        let (number, digest) = digests::of_words(bytes, length);
+        self.made(number, digest)
     }
 
     fn hash(&mut self, setting: &Setting, message: &[u8]) -> String {
         let hash = setting.params().hash(message);
         self.second.blake2b(&hash, setting, message);
-        self.made(Some(hash))
+        self.made_by_the_crate(hash)
     }
 
     fn with_state(&mut self, state: Option<Stream>) -> String {
@@ -78,17 +92,13 @@ impl Model {
         }
     }
 
-    // A refused digest becomes the last one too, as zeros.
     fn finalize(&mut self) -> String {
         match &self.state {
             Some(stream) => {
                 let hash = stream.digest(&mut self.second);
-                self.made(Some(hash))
+                self.made_by_the_crate(hash)
             }
-            None => {
-                self.last = None;
-                answer::no_digest(rules::RANGE)
-            }
+            None => self.made(rules::RANGE, None),
         }
     }
 
@@ -130,6 +140,12 @@ impl Model {
                 answer::number(self.setting.set_bytes(name, bytes_of(m)))
             }
             ["params", name, n] => answer::number(self.setting.set_number(name, number(n))),
+            ["params", "in_range"] => answer::yes(self.setting.in_range()),
+            ["params", "is_keyed"] => answer::yes(!self.setting.key.is_empty()),
+            ["params", "is_last_node"] => answer::yes(self.setting.last_node),
+            ["params", "digest_length"] => answer::length(rules::ACCEPTED, self.setting.hash_length),
+            ["params", "key_block"] => answer::bytes(rules::ACCEPTED, 128, &self.setting.key_block()),
+            ["params", "to_words"] => answer::bytes(rules::ACCEPTED, 64, &words::start_bytes(&self.setting)),
             ["hash", m] => self.hash(&self.setting.clone(), &bytes_of(m)),
             ["blake2b", m] => self.hash(&Setting::new(), &bytes_of(m)),
 
@@ -140,11 +156,14 @@ impl Model {
             ["state", "set_last_node", n] => self.change_state(|stream| stream.set_last_node(*n == "1")),
             ["state", "finalize"] => self.finalize(),
             ["state", "count"] => self.count(),
+            ["state", "in_range"] => answer::yes(self.state.is_some()),
 
-            ["digest", "zero"] => self.made(None),
-            ["digest", "from_bytes", m] => {
-                let bytes: [u8; 64] = bytes_of(m).try_into().expect("64 bytes");
-                self.made(Some(Hash::from(bytes)))
+            ["digest", "zero"] => self.made(rules::ACCEPTED, None),
+            ["digest", "from_bytes", m] => self.made_by_the_crate(Hash::from(sixty_four(m))),
+            ["digest", "from_words", n, m] => self.made_of_words(sixty_four(m), number(n)),
+            ["digest", "in_range"] => answer::yes(self.last.is_some()),
+            ["digest", "is_digest_length", n] => {
+                answer::yes(setting::hash_length_fault(number(n)) == rules::ACCEPTED)
             }
             ["digest", "keep"] => {
                 self.kept = self.last;
@@ -190,6 +209,7 @@ impl Model {
             }
             ["bp", "params", "hash_length", n] => answer::number(self.tree_setting.set_hash_length(number(n))),
             ["bp", "params", "key", m] => answer::number(self.tree_setting.set_key(bytes_of(m))),
+            ["bp", "params", "in_range"] => answer::yes(self.tree_setting.in_range()),
             ["bp", "hash", m] => answer::digest(&self.tree_setting.hash(&bytes_of(m), &mut self.second)),
             ["bp", "blake2bp", m] => answer::digest(&TreeSetting::new().hash(&bytes_of(m), &mut self.second)),
             ["bp", "state", "new"] => self.with_tree(Some(Tree::open(&TreeSetting::new()))),
@@ -199,6 +219,7 @@ impl Model {
             ["bp", "state", "finalize"] => {
                 of_tree(&self.tree, |tree| answer::digest(&tree.digest(&mut self.second)), answer::no_digest)
             }
+            ["bp", "state", "in_range"] => answer::yes(self.tree.is_some()),
             ["bp", "state", "count"] => parallel::count(&self.tree),
             ["bp", "state", "leaf_count"] => parallel::leaf_count(&self.tree),
             ["bp", "state", "buffered"] => parallel::buffered(&self.tree),

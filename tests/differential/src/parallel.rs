@@ -41,6 +41,11 @@ impl TreeSetting {
         number
     }
 
+    pub fn in_range(&self) -> bool {
+        let faults = [setting::hash_length_fault(self.hash_length as u64), setting::key_fault(&self.key)];
+        faults == [rules::ACCEPTED; 2]
+    }
+
     fn params(&self) -> Params {
         let mut params = Params::new();
         benchmarks::force_portable_blake2bp(&mut params);

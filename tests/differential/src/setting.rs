@@ -26,6 +26,10 @@ pub fn key_fault(key: &[u8]) -> u8 {
     rules::refused_if(key.len() > 64, rules::KEY)
 }
 
+fn inner_length_fault(length: u64) -> u8 {
+    rules::refused_if(length > 64, rules::INNER_LENGTH)
+}
+
 impl Setting {
     pub fn new() -> Self {
         Setting {
@@ -47,7 +51,7 @@ impl Setting {
     pub fn set_number(&mut self, name: &str, n: u64) -> u8 {
         let number = match name {
             "hash_length" => hash_length_fault(n),
-            "inner_hash_length" => rules::refused_if(n > 64, rules::INNER_LENGTH),
+            "inner_hash_length" => inner_length_fault(n),
             _ => rules::ACCEPTED,
         };
         if number != rules::ACCEPTED {
@@ -78,6 +82,23 @@ impl Setting {
             *field = bytes;
         }
         number
+    }
+
+    // Document 01's ranges of 14.
+    pub fn in_range(&self) -> bool {
+        let faults = [
+            hash_length_fault(self.hash_length as u64),
+            key_fault(&self.key),
+            inner_length_fault(self.inner_hash_length as u64),
+        ];
+        faults == [rules::ACCEPTED; 3]
+    }
+
+    // The key, and zeros behind it.
+    pub fn key_block(&self) -> [u8; 128] {
+        let mut block = [0; 128];
+        block[..self.key.len()].copy_from_slice(&self.key);
+        block
     }
 
     pub fn params(&self) -> Params {

@@ -28,8 +28,9 @@ fn number_of(answer: &str) -> usize {
 impl Tally {
     pub fn add(&mut self, line: &str, answer: &str) {
         let (call, number) = (call_of(line), number_of(answer));
-        // The calls on a digest show one that was made before.
-        let is_digest = number == 0 && answer.contains(" bytes=") && !call.starts_with("digest ");
+        // The calls on a digest show one that was made before, and those on parameters what they hold.
+        let shows_others = call.starts_with("digest ") || call.starts_with("params ");
+        let is_digest = number == 0 && answer.contains(" bytes=") && !shows_others;
         self.digests += u64::from(is_digest);
         match self.calls.get_mut(call) {
             Some(numbers) => numbers[number] += 1,

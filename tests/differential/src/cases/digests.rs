@@ -1,12 +1,18 @@
-//! The calls on a digest: comparison, bytes and hexadecimal to outputs of any room; and the zero records of a refusal.
+//! The calls on a digest: made of words, comparison, bytes and hexadecimal to outputs of any room; and the zero records of a
+//! refusal.
 
-use super::{any_message, hexadecimal};
+use super::{any_message, hexadecimal, large_length, small_length};
+use crate::dice::Dice;
 use crate::message::to_hex;
 use crate::script::Script;
 
+fn last_bytes(script: &Script) -> Vec<u8> {
+    script.model.last.map_or(Vec::new(), |made| made.as_bytes().to_vec())
+}
+
 // Bytes to compare the last digest with: its own, or nearly.
 fn like_the_last(script: &mut Script) -> String {
-    let mut bytes = script.model.last.map_or(Vec::new(), |hash| hash.as_bytes().to_vec());
+    let mut bytes = last_bytes(script);
     match script.dice.below(6) {
         0 | 1 => {}
         2 => _ = bytes.pop(),
@@ -22,7 +28,7 @@ fn like_the_last(script: &mut Script) -> String {
 
 // Rooms at and beside what is to be written.
 fn room(script: &mut Script, per_byte: usize) -> usize {
-    let length = per_byte * script.model.last.map_or(32, |hash| hash.as_bytes().len());
+    let length = per_byte * script.model.last.map_or(32, |made| made.as_bytes().len());
     match script.dice.below(8) {
         0 | 1 => length,
         2 => length - 1,
@@ -33,9 +39,27 @@ fn room(script: &mut Script, per_byte: usize) -> usize {
     }
 }
 
+// A digest's length, or one that no digest has.
+fn any_length(dice: &mut Dice) -> u64 {
+    match dice.below(8) {
+        0 => 0,
+        1 | 2 => large_length(dice),
+        _ => small_length(dice, 1),
+    }
+}
+
+// A length and words: those of the last digest with anything behind it, so that the same digest comes again; or others.
+fn words(script: &mut Script) -> String {
+    let front = if script.dice.one_in(3) { Vec::new() } else { last_bytes(script) };
+    let length = if script.dice.one_in(2) { any_length(&mut script.dice) } else { front.len() as u64 };
+    let mut bytes = [(); 64].map(|()| script.dice.word() as u8);
+    bytes[..front.len()].copy_from_slice(&front);
+    format!("{length} x:{}", to_hex(&bytes))
+}
+
 fn call(script: &mut Script) {
     let (short, long) = (room(script, 1), room(script, 2));
-    let line = match script.dice.below(10) {
+    let line = match script.dice.below(13) {
         0 => "digest len".to_string(),
         1 => "digest keep".to_string(),
         2 => "digest equals".to_string(),
@@ -44,6 +68,9 @@ fn call(script: &mut Script) {
         6 => format!("digest written_bytes {short}"),
         7 => format!("digest write_hex {long}"),
         8 => format!("digest written_hex {long}"),
+        9 => format!("digest from_words {}", words(script)),
+        10 => format!("digest is_digest_length {}", any_length(&mut script.dice)),
+        11 => "digest in_range".to_string(),
         _ => format!("digest from_bytes {}", hexadecimal(&mut script.dice, 64)),
     };
     script.say(line);
@@ -72,7 +99,7 @@ pub fn zero_records(script: &mut Script) {
     script.say("bp state zero");
     script.say("digest zero");
     for _ in 0..6 {
-        let line = match script.dice.below(10) {
+        let line = match script.dice.below(13) {
             0 => format!("state update {message}"),
             1 => format!("state set_last_node {}", script.dice.below(2)),
             2 => "state count".to_string(),
@@ -82,6 +109,9 @@ pub fn zero_records(script: &mut Script) {
             6 => "bp state finalize".to_string(),
             7 => "bp state leaf_count".to_string(),
             8 => "bp state buffered".to_string(),
+            9 => "state in_range".to_string(),
+            10 => "bp state in_range".to_string(),
+            11 => "digest in_range".to_string(),
             _ => return call(script),
         };
         script.say(line);

@@ -48,7 +48,12 @@ fn refused_setter(dice: &mut Dice) -> String {
     }
 }
 
-// Some over those of the case before, or over the defaults.
+fn ask_parameters(script: &mut Script) {
+    let asked = script.dice.one_of(&["in_range", "is_keyed", "is_last_node", "digest_length", "key_block", "to_words"]);
+    script.say(format!("params {asked}"));
+}
+
+// Some over those of the case before, or over the defaults, and what is read of them.
 pub fn set_parameters(script: &mut Script) {
     if script.dice.one_in(5) {
         script.say("params new");
@@ -60,6 +65,9 @@ pub fn set_parameters(script: &mut Script) {
     if script.dice.one_in(8) {
         let call = refused_setter(&mut script.dice);
         script.say(format!("params {call}"));
+    }
+    for _ in 0..script.dice.below(3) {
+        ask_parameters(script);
     }
 }
 
@@ -94,6 +102,9 @@ pub fn pieces(script: &mut Script) {
         }
         if script.dice.one_in(3) {
             script.say("state count");
+        }
+        if script.dice.one_in(6) {
+            script.say("state in_range");
         }
         start = end;
     }

@@ -15,6 +15,9 @@ fn set_parameters(script: &mut Script) {
         _ => format!("hash_length {}", small_length(dice, 1)),
     };
     script.say(format!("bp params {call}"));
+    if script.dice.one_in(3) {
+        script.say("bp params in_range");
+    }
 }
 
 pub fn one_shot(script: &mut Script) {
@@ -38,7 +41,7 @@ pub fn pieces(script: &mut Script) {
     let mut start = 0;
     for end in ends(&mut script.dice, length) {
         script.say(format!("bp state update {message}[{start}:{end}]"));
-        let asked = script.dice.one_of(&["finalize", "count", "buffered", "leaf_count"]);
+        let asked = script.dice.one_of(&["finalize", "count", "buffered", "leaf_count", "in_range"]);
         script.say(format!("bp state {asked}"));
         start = end;
     }

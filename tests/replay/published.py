@@ -1,8 +1,7 @@
-"""The designers' published answers, from the file that KAT names."""
+"""The designers' published answers: tests/vectors/kat.txt."""
 import os
-import sys
 
-KAT = os.environ.get("KAT") or sys.exit("KAT is not set: it names the file of published answers")
+KAT = os.path.join(os.path.dirname(os.path.abspath(__file__)), "..", "vectors", "kat.txt")
 
 
 # Of an algorithm, without a key and then with one: the key's hex digits, and the lengths with their digests.

@@ -1,4 +1,4 @@
 pub mod Digests
 pub mod Turns
 pub mod Unique
-pub mod Wholes
+pub mod Outputs

@@ -1,2 +1,2 @@
 pub mod Hash
-pub mod Whole
+pub mod Output

@@ -24,7 +24,8 @@ use Rattle.blake2b.proofs.Pushes.{sound-fresh}
 use Rattle.blake2b.proofs.Rows.{pushed-none, range-reached, says-digest, says-count, updated-accepted, updated-refused}
 use Rattle.report_text.specs.Lines.{fiveLines, unreadable}
 use Rattle.report_text.specs.Reads.{Read, piece, failure, afterReads, bytesOf, noneFailed, reported, printed}
-use Rattle.report_text.specs.Report.{begun, taken, linesOf, wrote, writtenOver, textAnswered, textOver}
+use Rattle.hash.specs.Output.{wrote, wroteOver}
+use Rattle.report_text.specs.Report.{begun, taken, linesOf, textAnswered, textOver}
 use Rattle.report_text.specs.declared.report.Report.{Report}
 
 -- the state of some bytes, and a report that holds it
@@ -154,9 +155,9 @@ pub text-answers : (xs : List Read) (room : ℕ) → textAnswered (afterReads be
 unfolding textAnswered
 text-answers xs room = rw (from-begun xs .ranged) (ap (λ (t : List ℕ). wrote t room) (text-of-reads xs))
 
-pub text-leaves : (xs : List Read) (out : List ℕ) → textOver (afterReads begun xs) out ≡ writtenOver (printed xs) out
+pub text-leaves : (xs : List Read) (out : List ℕ) → textOver (afterReads begun xs) out ≡ wroteOver (printed xs) out
 unfolding textOver
-text-leaves xs out = rw (from-begun xs .ranged) (ap (λ (t : List ℕ). writtenOver t out) (text-of-reads xs))
+text-leaves xs out = rw (from-begun xs .ranged) (ap (λ (t : List ℕ). wroteOver t out) (text-of-reads xs))
 
 -- a read that fails, at any time, gives the one line
 pub failed-read : (xs : List Read) → noneFailed xs ≡ false → linesOf (afterReads begun xs) ≡ unreadable

@@ -3,12 +3,12 @@
 use mathlib.Core.Bool.{true, false, cond, _&&_}
 use mathlib.Core.List.{List}
 use Prim.Native.Nat.{ℕ, zero, suc}
-use lib.Dec.{leb, eqb}
+use lib.Dec.{eqb}
 use lib.IntN.{ℤ, pos, negsuc}
 use lib.ListN.{length, take}
-use Rattle.laws.specs.Buffer.{over}
-use Rattle.numbers.specs.Numbers.{accepted, output-short, bad-record}
+use Rattle.numbers.specs.Numbers.{accepted, bad-record}
 use Rattle.hash.specs.Hash.{digestOf}
+use Rattle.hash.specs.Output.{wrote, wroteOver}
 use Rattle.blake2b.specs.Params.{defaults}
 use Rattle.blake2b.specs.State.{stateInRange, fresh, updated, finalized, counted}
 use Rattle.hash.specs.declared.LengthAnswer.{LengthAnswer}
@@ -40,17 +40,9 @@ linesOf r =
     let s = r .state in
     cond (r .readable) (fiveLines (length (digestOf (finalized s .hash))) 0 (counted s .count) (digestOf (finalized s .hash))) unreadable
 
--- a text that is to go to an output of `room` bytes: 11 where that is shorter
-unfoldable pub wrote : List ℕ → ℕ → LengthAnswer
-wrote text room = cond (leb (length text) room) (record { number = accepted; length = length text }) (record { number = output-short; length = 0 })
-
--- the output after it: the text over its front, or every byte as it was
-unfoldable pub writtenOver : List ℕ → List ℕ → List ℕ
-writtenOver text out = cond (leb (length text) (length out)) (over text out) out
-
 -- the report's text, to an output: 14 where the state is out of range
 unfoldable pub textAnswered : Report → ℕ → LengthAnswer
 textAnswered r room = cond (stateInRange (r .state)) (wrote (linesOf r) room) (record { number = bad-record; length = 0 })
 
 unfoldable pub textOver : Report → List ℕ → List ℕ
-textOver r out = cond (stateInRange (r .state)) (writtenOver (linesOf r) out) out
+textOver r out = cond (stateInRange (r .state)) (wroteOver (linesOf r) out) out

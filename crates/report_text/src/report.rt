@@ -15,10 +15,11 @@ ghost use mathlib.Core.Bool.{true};
 ghost use Prim.Native.Nat.{_+_, _≤_};
 ghost use lib.ListN.{length};
 ghost use Rattle.hash.specs.Hash.{hashInRange, digestOf, hexOf};
+ghost use Rattle.hash.specs.Output.{wrote, wroteOver};
 ghost use Rattle.blake2b.specs.State.{stateInRange};
 ghost use Rattle.report_text.specs.Ascii.{ascii};
 ghost use Rattle.report_text.specs.Lines.{line, lengthLines, fiveLines, Appends};
-ghost use Rattle.report_text.specs.Report.{begun, taken, failed, afterReading, linesOf, wrote, writtenOver, textAnswered, textOver};
+ghost use Rattle.report_text.specs.Report.{begun, taken, failed, afterReading, linesOf, textAnswered, textOver};
 
 pub struct Report {
     pub(crate) state: State,
@@ -64,7 +65,7 @@ fn put_five(out: &mut [u8], hash: Hash, count: u64) -> usize
 
 // The text, over the front of an output that has room for it.
 fn write(text: &[u8], out: &mut [u8]) -> LengthAnswer
-    ensures { λ r. ⌜ (r ≡ wrote (now (text .entry)) (length (now (out .entry)))) × (now (out .exit) ≡ writtenOver (now (text .entry)) (now (out .entry))) ⌝ }
+    ensures { λ r. ⌜ (r ≡ wrote (now (text .entry)) (length (now (out .entry)))) × (now (out .exit) ≡ wroteOver (now (text .entry)) (now (out .entry))) ⌝ }
 {
     let n = text.len();
     if out.len() < n {

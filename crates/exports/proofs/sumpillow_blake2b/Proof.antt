@@ -2,12 +2,13 @@
 -- Assumes nothing.
 use mathlib.Core.Path.{ap, _∙_}
 use mathlib.Core.List.{[]}
+use native.Mathlib.Omega.{arith}
 use borrow.Author.Needs.{needs}
 use denote.Ref.{now}
 use Rattle.definitions.specs.Family.{BLAKE2b}
 use Rattle.definitions.specs.Hash.{blake2}
 use Rattle.hash.specs.Hash.{hashOf}
-use Rattle.hash.proofs.Wholes.{written-whole}
+use Rattle.hash.proofs.Outputs.{written-output}
 use Rattle.blake2b.proofs.Plain.{digest-plain, length-of-digest}
 use Rattle.exports.proofs.sumpillow_blake2b.Statement.{statement}
 use Rattle.exports.proofs.sumpillow_blake2b.Tie as tie
@@ -17,7 +18,8 @@ returns c =
     let b = c .before .before .before .before in
     let a = b .before .before .before .args in
     let m = now (a .input) in
-    written-whole (blake2 BLAKE2b 64 [] m) (now (a .out)) (length-of-digest m) (b .blake2b .ensures ∙ ap hashOf (digest-plain m)) (c .before .before .write-bytes .ensures)
+    let whole = length-of-digest m in
+    written-output (blake2 BLAKE2b 64 [] m) (now (a .out)) (omega (arith, whole)) (omega (arith, whole)) (b .blake2b .ensures ∙ ap hashOf (digest-plain m)) (c .before .before .write-bytes .ensures)
 
 pub sumpillow-blake2b-spec : {M : Type 1} → statement M
 sumpillow-blake2b-spec = tie.close (tie.spec (λ c κs. search needs) (λ c κs. search needs) (λ c. search needs) returns)

@@ -3,6 +3,7 @@
 use mathlib.Core.Path.{ap, _∙_}
 use mathlib.Core.List.{[]}
 use Prim.Native.Nat.{_≤_}
+use native.Mathlib.Omega.{arith}
 use borrow.Author.Needs.{needs}
 use denote.Ref.{now}
 use lib.ListN.{length}
@@ -10,7 +11,7 @@ use Rattle.definitions.specs.Family.{BLAKE2b}
 use Rattle.definitions.specs.Hash.{blake2}
 use Rattle.numbers.specs.Numbers.{limit}
 use Rattle.hash.specs.declared.HashAnswer.{HashAnswer}
-use Rattle.hash.proofs.Wholes.{written-whole}
+use Rattle.hash.proofs.Outputs.{written-output}
 use Rattle.blake2b.specs.State.{updated, finalized}
 use Rattle.blake2b.specs.declared.state.State.{State}
 use Rattle.blake2b.specs.declared.state.StateAnswer.{StateAnswer}
@@ -30,7 +31,8 @@ returns c =
     let m = now (s .args .input) in
     let taken = u .update .ensures ∙ ap (λ (t : State). updated t m) (n .new .ensures) in
     let done = f .finalize .ensures ∙ ap (λ (t : StateAnswer). finalized (t .state)) taken in
-    written-whole (blake2 BLAKE2b 64 [] m) (now (s .args .out)) (length-of-digest m) (ap (λ (t : HashAnswer). t .hash) done ∙ finalized-plain m (few s)) (c .before .before .write-bytes .ensures)
+    let whole = length-of-digest m in
+    written-output (blake2 BLAKE2b 64 [] m) (now (s .args .out)) (omega (arith, whole)) (omega (arith, whole)) (ap (λ (t : HashAnswer). t .hash) done ∙ finalized-plain m (few s)) (c .before .before .write-bytes .ensures)
 
 pub sumpillow-state-spec : {M : Type 1} → statement M
 sumpillow-state-spec =

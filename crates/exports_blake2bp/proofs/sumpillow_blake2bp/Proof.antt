@@ -2,11 +2,12 @@
 -- Assumes nothing.
 use mathlib.Core.Path.{ap, _∙_}
 use mathlib.Core.List.{[]}
+use native.Mathlib.Omega.{arith}
 use borrow.Author.Needs.{needs}
 use denote.Ref.{now}
 use Rattle.definitions.specs.Tree.{BLAKE2bp}
 use Rattle.hash.specs.Hash.{hashOf}
-use Rattle.hash.proofs.Wholes.{written-whole}
+use Rattle.hash.proofs.Outputs.{written-output}
 use Rattle.blake2bp.proofs.Plain.{digest-plain, length-of-digest}
 use Rattle.exports_blake2bp.proofs.sumpillow_blake2bp.Statement.{statement}
 use Rattle.exports_blake2bp.proofs.sumpillow_blake2bp.Tie as tie
@@ -16,7 +17,8 @@ returns c =
     let b = c .before .before .before .before in
     let a = b .before .before .before .args in
     let m = now (a .input) in
-    written-whole (BLAKE2bp 64 [] m) (now (a .out)) (length-of-digest m) (b .blake2bp .ensures ∙ ap hashOf (digest-plain m)) (c .before .before .write-bytes .ensures)
+    let whole = length-of-digest m in
+    written-output (BLAKE2bp 64 [] m) (now (a .out)) (omega (arith, whole)) (omega (arith, whole)) (b .blake2bp .ensures ∙ ap hashOf (digest-plain m)) (c .before .before .write-bytes .ensures)
 
 pub sumpillow-blake2bp-spec : {M : Type 1} → statement M
 sumpillow-blake2bp-spec = tie.close (tie.spec (λ c κs. search needs) (λ c κs. search needs) (λ c. search needs) returns)

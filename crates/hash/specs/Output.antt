@@ -1,0 +1,18 @@
+-- A text to a lent output, whole or not at all: what is answered, and the output after it, as document 01's refusal 11 says.
+-- Assumes nothing.
+use mathlib.Core.Bool.{cond}
+use mathlib.Core.List.{List}
+use Prim.Native.Nat.{ℕ}
+use lib.Dec.{leb}
+use lib.ListN.{length}
+use Rattle.laws.specs.Buffer.{over}
+use Rattle.numbers.specs.Numbers.{accepted, output-short}
+use Rattle.hash.specs.declared.LengthAnswer.{LengthAnswer}
+
+-- to an output of `room` bytes: 11 where that is shorter
+unfoldable pub wrote : List ℕ → ℕ → LengthAnswer
+wrote text room = cond (leb (length text) room) (record { number = accepted; length = length text }) (record { number = output-short; length = 0 })
+
+-- the text over the output's front, or every byte as it was
+unfoldable pub wroteOver : List ℕ → List ℕ → List ℕ
+wroteOver text out = cond (leb (length text) (length out)) (over text out) out

@@ -66,7 +66,7 @@ pub extern "C" fn sumpillow_write_words(words: &[u64; 8], out: &mut [u8; 64]) {
 // The digest of 64 bytes, one-shot; the answer's number.
 #[no_mangle]
 pub extern "C" fn sumpillow_blake2b(input: &[u8], out: &mut [u8]) -> u8
-    ensures { λ r. ⌜ (r ≡ wrote (blake2 BLAKE2b 64 [] (now (input .entry))) (length (now (out .entry))) .number) × (now (out .exit) ≡ wroteOver (blake2 BLAKE2b 64 [] (now (input .entry))) (now (out .entry))) ⌝ }
+    ensures { λ r. ⌜ (r ≡ wrote 64 (length (now (out .entry))) .number) × (now (out .exit) ≡ wroteOver (blake2 BLAKE2b 64 [] (now (input .entry))) (now (out .entry))) ⌝ }
 {
     let written = blake2b(input).write_bytes(out);
     written.number
@@ -75,7 +75,7 @@ pub extern "C" fn sumpillow_blake2b(input: &[u8], out: &mut [u8]) -> u8
 // The same through a state and one update.
 #[no_mangle]
 pub extern "C" fn sumpillow_state(input: &[u8], out: &mut [u8]) -> u8
-    ensures { λ r. ⌜ (r ≡ wrote (blake2 BLAKE2b 64 [] (now (input .entry))) (length (now (out .entry))) .number) × (now (out .exit) ≡ wroteOver (blake2 BLAKE2b 64 [] (now (input .entry))) (now (out .entry))) ⌝ }
+    ensures { λ r. ⌜ (r ≡ wrote 64 (length (now (out .entry))) .number) × (now (out .exit) ≡ wroteOver (blake2 BLAKE2b 64 [] (now (input .entry))) (now (out .entry))) ⌝ }
 {
     let fresh = State::new();
     let taken = fresh.update(input);

@@ -10,7 +10,7 @@ ghost use Rattle.hash.specs.Output.{wrote, wroteOver};
 // The digest of 64 bytes; the answer's number.
 #[no_mangle]
 pub extern "C" fn sumpillow_blake2bp(input: &[u8], out: &mut [u8]) -> u8
-    ensures { λ r. ⌜ (r ≡ wrote (BLAKE2bp 64 [] (now (input .entry))) (length (now (out .entry))) .number) × (now (out .exit) ≡ wroteOver (BLAKE2bp 64 [] (now (input .entry))) (now (out .entry))) ⌝ }
+    ensures { λ r. ⌜ (r ≡ wrote 64 (length (now (out .entry))) .number) × (now (out .exit) ≡ wroteOver (BLAKE2bp 64 [] (now (input .entry))) (now (out .entry))) ⌝ }
 {
     let written = blake2bp(input).write_bytes(out);
     written.number

@@ -8,7 +8,8 @@ use lib.ListN.{length, take}
 use Rattle.definitions.specs.Words.{pad}
 use Rattle.laws.specs.Chain.{zeros}
 use Rattle.laws.specs.Buffer.{over}
-use Rattle.numbers.specs.Numbers.{accepted, digest-length, output-short, bad-record}
+use Rattle.numbers.specs.Numbers.{accepted, digest-length, bad-record}
+use Rattle.hash.specs.Output.{wrote}
 use Rattle.hash.specs.declared.Hash.{Hash}
 use Rattle.hash.specs.declared.HashAnswer.{HashAnswer}
 use Rattle.hash.specs.declared.LengthAnswer.{LengthAnswer}
@@ -70,10 +71,7 @@ mayWrite h n room = hashInRange h && leb n room
 
 -- the answer
 unfoldable pub writtenAnswered : Hash → ℕ → ℕ → LengthAnswer
-writtenAnswered h n room =
-    cond (hashInRange h)
-    (cond (leb n room) (record { number = accepted; length = n }) (record { number = output-short; length = 0 }))
-    (record { number = bad-record; length = 0 })
+writtenAnswered h n room = cond (hashInRange h) (wrote n room) (record { number = bad-record; length = 0 })
 
 -- the output once the text was to go there: the text over its front, or every byte as it was
 unfoldable pub writtenOver : Hash → List ℕ → List ℕ → List ℕ

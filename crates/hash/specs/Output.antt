@@ -9,10 +9,10 @@ use Rattle.laws.specs.Buffer.{over}
 use Rattle.numbers.specs.Numbers.{accepted, output-short}
 use Rattle.hash.specs.declared.LengthAnswer.{LengthAnswer}
 
--- to an output of `room` bytes: 11 where that is shorter
-unfoldable pub wrote : List ℕ → ℕ → LengthAnswer
-wrote text room = cond (leb (length text) room) (record { number = accepted; length = length text }) (record { number = output-short; length = 0 })
+-- n bytes of text to an output of `room` bytes: 11 where that is shorter
+abbrev pub wrote : ℕ → ℕ → LengthAnswer
+wrote n room = cond (leb n room) (record { number = accepted; length = n }) (record { number = output-short; length = 0 })
 
 -- the text over the output's front, or every byte as it was
-unfoldable pub wroteOver : List ℕ → List ℕ → List ℕ
+abbrev pub wroteOver : List ℕ → List ℕ → List ℕ
 wroteOver text out = cond (leb (length text) (length out)) (over text out) out

@@ -15,10 +15,11 @@ each g i (suc n) [] = []
 each g i (suc n) (w ∷ ws) = g i w ∷ each g (suc i) n ws
 
 module _ {W : Type 0} (bb : ℕ) (F : W → List ℕ → ℕ → Bool → Bool → W) (n : ℕ) where
-  -- leaf i over k rows of d; and over all of d, finalizing or not, where the last leaf is the last node
+  -- leaf i, from the state w at count t on, over its blocks of k rows of d
   abbrev pub leafRun : ℕ → List ℕ → ℕ → ℕ → W → W
   leafRun t d k i w = absorb bb F (n * bb) w t (drop (i * bb) d) k
 
+  -- and over all its blocks of d, finalizing where f says so: the last leaf is then the last node
   abbrev pub leafThrough : ℕ → Bool → List ℕ → ℕ → W → W
   leafThrough t f d i w = through bb F (n * bb) w t f (f && eqb (suc i) n) (drop (i * bb) d)
 

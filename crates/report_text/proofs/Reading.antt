@@ -151,9 +151,9 @@ unfolding printed
 text-of-reads xs = from-begun xs .lines
 
 -- and what `text` answers and leaves: it never meets 14
-pub text-answers : (xs : List Read) (room : ℕ) → textAnswered (afterReads begun xs) room ≡ wrote (printed xs) room
+pub text-answers : (xs : List Read) (room : ℕ) → textAnswered (afterReads begun xs) room ≡ wrote (length (printed xs)) room
 unfolding textAnswered
-text-answers xs room = rw (from-begun xs .ranged) (ap (λ (t : List ℕ). wrote t room) (text-of-reads xs))
+text-answers xs room = rw (from-begun xs .ranged) (ap (λ (t : List ℕ). wrote (length t) room) (text-of-reads xs))
 
 pub text-leaves : (xs : List Read) (out : List ℕ) → textOver (afterReads begun xs) out ≡ wroteOver (printed xs) out
 unfolding textOver

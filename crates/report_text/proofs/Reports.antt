@@ -99,13 +99,12 @@ module _ (r : Report) (out now : List ℕ) (end : ℕ) where
 
 -- a text that is to go to an output
 module _ (text out : List ℕ) where
-  pub wrote-short : length out < length text → (record { number = output-short; length = 0 } ≡ wrote text (length out)) × (out ≡ wroteOver text out)
-  unfolding wrote wroteOver
+  pub wrote-short : length out < length text → (record { number = output-short; length = 0 } ≡ wrote (length text) (length out)) × (out ≡ wroteOver text out)
   wrote-short h = let e = lt-leb (length text) (length out) h in (rw e refl, rw e refl)
 
   pub wrote-fits : {now : List ℕ} {end : ℕ} → length text ≤ length out → (end ≡ 0 + length text) × (now ≡ paste out 0 text (length text))
-      → (record { number = accepted; length = end } ≡ wrote text (length out)) × (now ≡ wroteOver text out)
-  unfolding wrote wroteOver over
+      → (record { number = accepted; length = end } ≡ wrote (length text) (length out)) × (now ≡ wroteOver text out)
+  unfolding over
   wrote-fits {now} {end} h p =
       let e = le-leb (length text) (length out) h in
       let n = p .0 ∙ zero-add (length text) in
@@ -120,8 +119,8 @@ module _ (r : Report) (out : List ℕ) {good : Bool} (e : good ≡ stateInRange 
   text-bad h = let f = sym e ∙ not-true good h in (rw f refl, rw f refl)
 
   pub text-wrote : not good ≡ false → {text now : List ℕ} {a : LengthAnswer} → text ≡ linesOf r
-      → (a ≡ wrote text (length out)) × (now ≡ wroteOver text out) → (a ≡ textAnswered r (length out)) × (now ≡ textOver r out)
+      → (a ≡ wrote (length text) (length out)) × (now ≡ wroteOver text out) → (a ≡ textAnswered r (length out)) × (now ≡ textOver r out)
   unfolding textAnswered textOver
   text-wrote h g w =
       let f = sym e ∙ not-false good h in
-      (rw f (w .0 ∙ ap (λ (t : List ℕ). wrote t (length out)) g), rw f (w .1 ∙ ap (λ (t : List ℕ). wroteOver t out) g))
+      (rw f (w .0 ∙ ap (λ (t : List ℕ). wrote (length t) (length out)) g), rw f (w .1 ∙ ap (λ (t : List ℕ). wroteOver t out) g))

@@ -42,7 +42,7 @@ linesOf r =
 
 -- the report's text, to an output: 14 where the state is out of range
 unfoldable pub textAnswered : Report → ℕ → LengthAnswer
-textAnswered r room = cond (stateInRange (r .state)) (wrote (linesOf r) room) (record { number = bad-record; length = 0 })
+textAnswered r room = cond (stateInRange (r .state)) (wrote (length (linesOf r)) room) (record { number = bad-record; length = 0 })
 
 unfoldable pub textOver : Report → List ℕ → List ℕ
 textOver r out = cond (stateInRange (r .state)) (wroteOver (linesOf r) out) out

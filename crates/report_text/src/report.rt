@@ -65,7 +65,7 @@ fn put_five(out: &mut [u8], hash: Hash, count: u64) -> usize
 
 // The text, over the front of an output that has room for it.
 fn write(text: &[u8], out: &mut [u8]) -> LengthAnswer
-    ensures { λ r. ⌜ (r ≡ wrote (now (text .entry)) (length (now (out .entry)))) × (now (out .exit) ≡ wroteOver (now (text .entry)) (now (out .entry))) ⌝ }
+    ensures { λ r. ⌜ (r ≡ wrote (length (now (text .entry))) (length (now (out .entry)))) × (now (out .exit) ≡ wroteOver (now (text .entry)) (now (out .entry))) ⌝ }
 {
     let n = text.len();
     if out.len() < n {

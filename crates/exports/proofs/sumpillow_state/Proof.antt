@@ -31,8 +31,7 @@ returns c =
     let m = now (s .args .input) in
     let taken = u .update .ensures ∙ ap (λ (t : State). updated t m) (n .new .ensures) in
     let done = f .finalize .ensures ∙ ap (λ (t : StateAnswer). finalized (t .state)) taken in
-    let whole = length-of-digest m in
-    written-output (blake2 BLAKE2b 64 [] m) (now (s .args .out)) (omega (arith, whole)) (omega (arith, whole)) (ap (λ (t : HashAnswer). t .hash) done ∙ finalized-plain m (few s)) (c .before .before .write-bytes .ensures)
+    written-output (blake2 BLAKE2b 64 [] m) (now (s .args .out)) 64 (omega arith) (omega arith) (length-of-digest m) (ap (λ (t : HashAnswer). t .hash) done ∙ finalized-plain m (few s)) (c .before .before .write-bytes .ensures)
 
 pub sumpillow-state-spec : {M : Type 1} → statement M
 sumpillow-state-spec =

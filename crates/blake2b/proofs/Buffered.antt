@@ -7,34 +7,40 @@ use native.Mathlib.Nat.{zero-add}
 use lib.ListN.{length, drop}
 use Rattle.definitions.specs.Words.{pad}
 use Rattle.laws.specs.Chain.{spare}
+use Rattle.laws.specs.Buffer as buffer
 use Rattle.laws.proofs.Tails.{rows-gone, bytes-held, tail-zero, exact-row-held}
 use Rattle.blake2b.specs.Params.{front}
-use Rattle.blake2b.specs.State.{core, machine, pushed, fresh}
+use Rattle.blake2b.specs.State.{core, machine, pending, pushed, fresh}
 use Rattle.blake2b.specs.declared.params.Params.{Params}
-use Rattle.blake2b.proofs.Pushes.{pending-fresh}
+use lib.ListN.{replicate}
+use lib.Seq.{take-append-seam}
 use Rattle.blake2b.proofs.States.{lawful, tight}
 use mathlib.Core.Path.{refl}
+
+pending-fresh : (p : Params) → pending (fresh p) ≡ front p
+unfolding buffer.pending pad
+pending-fresh p = take-append-seam (front p) (replicate (128 - length (front p)) 0)
 
 module _ (p : Params) (whole : length (p .«key_block») ≡ 128) (bytes : List ℕ) where
   -- an exact last block waits too: of T bytes, (T - 1) / 128 blocks have gone
   pub blocks-gone : pushed (fresh p) bytes .count ≡ 128 * spare 128 0 (length (front p ++ bytes))
   blocks-gone =
       rows-gone machine lawful tight (core (fresh p)) bytes ∙ zero-add (128 * spare 128 0 _)
-      ∙ ap (λ (d : List ℕ). 128 * spare 128 0 (length (d ++ bytes))) (pending-fresh p whole)
+      ∙ ap (λ (d : List ℕ). 128 * spare 128 0 (length (d ++ bytes))) (pending-fresh p)
 
   pub bytes-wait : pushed (fresh p) bytes .buflen ≡ length (front p ++ bytes) - 128 * spare 128 0 (length (front p ++ bytes))
   bytes-wait =
       bytes-held machine lawful tight (core (fresh p)) bytes
-      ∙ ap (λ (d : List ℕ). length (d ++ bytes) - 128 * spare 128 0 (length (d ++ bytes))) (pending-fresh p whole)
+      ∙ ap (λ (d : List ℕ). length (d ++ bytes) - 128 * spare 128 0 (length (d ++ bytes))) (pending-fresh p)
 
   -- and behind them the buffer is zero
   pub zeros-behind : pushed (fresh p) bytes .buf ≡ pad 128 (drop (128 * spare 128 0 (length (front p ++ bytes))) (front p ++ bytes))
   zeros-behind =
-      tail-zero machine lawful tight (core (fresh p)) bytes (ap (pad 128) (sym (pending-fresh p whole)))
-      ∙ ap (λ (d : List ℕ). pad 128 (drop (128 * spare 128 0 (length (d ++ bytes))) (d ++ bytes))) (pending-fresh p whole)
+      tail-zero machine lawful tight (core (fresh p)) bytes (ap (pad 128) (sym (pending-fresh p)))
+      ∙ ap (λ (d : List ℕ). pad 128 (drop (128 * spare 128 0 (length (d ++ bytes))) (d ++ bytes))) (pending-fresh p)
 
   -- a message of whole blocks: the last of them is in the buffer, all of it
   pub exact-block-waits : (k : ℕ) → length (front p ++ bytes) ≡ 128 * suc k → (pushed (fresh p) bytes .buflen ≡ 128) × (pushed (fresh p) bytes .count ≡ 128 * k)
   exact-block-waits k e =
-      let h = exact-row-held machine lawful tight (core (fresh p)) bytes refl k (ap (λ (d : List ℕ). length (d ++ bytes)) (pending-fresh p whole) ∙ e) in
+      let h = exact-row-held machine lawful tight (core (fresh p)) bytes refl k (ap (λ (d : List ℕ). length (d ++ bytes)) (pending-fresh p) ∙ e) in
       (h .0, h .1 ∙ zero-add (128 * k))

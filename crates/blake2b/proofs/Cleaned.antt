@@ -12,9 +12,13 @@ use lib.Seq.{take-append-seam}
 use Rattle.definitions.specs.Words.{pad}
 use Rattle.definitions.proofs.Lengths.{length-pad}
 use Rattle.laws.specs.Chain.{zeros}
+use Rattle.numbers.specs.Numbers.{accepted, digest-length, key-length, salt-length, personal-length, inner-length, bad-record}
+use Rattle.members.specs.Tests.{Test, test}
+use Rattle.members.proofs.Picks.{All, tested-keeps}
 use Rattle.hash.specs.Hash.{isDigestLength}
 use Rattle.blake2b.specs.Params.{defaults, inRange, answered, withNumber, withFields, hash-length-at, fanout-at, max-depth-at, max-leaf-length-at, node-offset-at, node-depth-at, inner-hash-length-at, withKey, withSalt, withPersonal, Clean, Setting, hash-length, key, salt, personal, fanout, max-depth, max-leaf-length, node-offset, node-depth, inner-hash-length, last-node, afterSetting}
 use Rattle.blake2b.specs.declared.params.Params.{Params}
+use Rattle.blake2b.specs.declared.params.ParamsAnswer.{ParamsAnswer}
 
 -- what parameters out of this crate keep
 pub record Good (p : Params) : Type 0 where
@@ -26,12 +30,9 @@ unfolding inRange zeros pad
 good-defaults = record { ranged = refl; clean = record { whole = refl; filled = refl } }
 
 -- a refused setter leaves what was good
-good-answered : (p : Params) (ok : Bool) (refusal : ℕ) (changed : Params) → Good p → (ok ≡ true → Good changed) → Good (answered p ok refusal changed .params)
-good-answered p ok refusal changed g d = split ok refl
-  where
-    split : (b : Bool) → ok ≡ b → Good (answered p ok refusal changed .params)
-    split true e = unfold answered in rw (g .ranged, e) (d e)
-    split false e = unfold answered in rw (g .ranged, e) g
+good-answered : (p : Params) (ts : List Test) (changed : Params) → Good p → (All ts → Good changed) → Good (answered p ts changed .params)
+good-answered p ts changed g d =
+    tested-keeps (λ (a : ParamsAnswer). Good (a .params)) (test (inRange p) bad-record ∷ ts) (record { number = accepted; params = changed }) (λ n. record { number = n; params = p }) (λ h. d (h .1)) (λ n. g)
 
 -- the three tests of the range
 record Tests (p : Params) : Type 0 where
@@ -79,17 +80,17 @@ unfolding inRange
 good-fields p s q node g = record { ranged = g .ranged; clean = record { whole = g .clean .whole; filled = g .clean .filled } }
 
 pub good-after : (p : Params) (s : Setting) → Good p → Good (afterSetting p s)
-good-after p (hash-length n) g = good-answered p _ _ _ g (good-digest n p g)
-good-after p (key k) g = good-answered p _ _ _ g (good-key k p g)
-good-after p (salt s) g = good-answered p _ _ _ g (λ e. good-fields p (withSalt s p .salt) (p .personal) (p .«last_node») g)
-good-after p (personal s) g = good-answered p _ _ _ g (λ e. good-fields p (p .salt) (withPersonal s p .personal) (p .«last_node») g)
-good-after p (fanout n) g = good-answered p _ _ _ g (λ e. good-number fanout-at n p g refl refl)
-good-after p (max-depth n) g = good-answered p _ _ _ g (λ e. good-number max-depth-at n p g refl refl)
-good-after p (max-leaf-length n) g = good-answered p _ _ _ g (λ e. good-number max-leaf-length-at n p g refl refl)
-good-after p (node-offset n) g = good-answered p _ _ _ g (λ e. good-number node-offset-at n p g refl refl)
-good-after p (node-depth n) g = good-answered p _ _ _ g (λ e. good-number node-depth-at n p g refl refl)
-good-after p (inner-hash-length n) g = good-answered p _ _ _ g (good-inner n p g)
-good-after p (last-node up) g = good-answered p _ _ _ g (λ e. good-fields p (p .salt) (p .personal) up g)
+good-after p (hash-length n) g = good-answered p (test (isDigestLength n) digest-length ∷ []) _ g (λ h. good-digest n p g (h .0))
+good-after p (key k) g = good-answered p (test (leb (length k) 64) key-length ∷ []) _ g (λ h. good-key k p g (h .0))
+good-after p (salt s) g = good-answered p (test (leb (length s) 16) salt-length ∷ []) _ g (λ e. good-fields p (withSalt s p .salt) (p .personal) (p .«last_node») g)
+good-after p (personal s) g = good-answered p (test (leb (length s) 16) personal-length ∷ []) _ g (λ e. good-fields p (p .salt) (withPersonal s p .personal) (p .«last_node») g)
+good-after p (fanout n) g = good-answered p [] _ g (λ e. good-number fanout-at n p g refl refl)
+good-after p (max-depth n) g = good-answered p [] _ g (λ e. good-number max-depth-at n p g refl refl)
+good-after p (max-leaf-length n) g = good-answered p [] _ g (λ e. good-number max-leaf-length-at n p g refl refl)
+good-after p (node-offset n) g = good-answered p [] _ g (λ e. good-number node-offset-at n p g refl refl)
+good-after p (node-depth n) g = good-answered p [] _ g (λ e. good-number node-depth-at n p g refl refl)
+good-after p (inner-hash-length n) g = good-answered p (test (leb n 64) inner-length ∷ []) _ g (λ h. good-inner n p g (h .0))
+good-after p (last-node up) g = good-answered p [] _ g (λ e. good-fields p (p .salt) (p .personal) up g)
 
 -- any setters, from the defaults
 pub settings-good : (ss : List Setting) (p : Params) → Good p → Good (foldl afterSetting p ss)

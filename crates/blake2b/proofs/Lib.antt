@@ -3,9 +3,7 @@ pub mod Cleaned
 pub mod OneShot
 pub mod Plain
 pub mod Pushes
-pub mod Ranges
 pub mod Rows
-pub mod Setters
 pub mod Sizes
 pub mod States
 pub mod Unique

@@ -18,8 +18,8 @@ use Rattle.hash.specs.declared.HashAnswer.{HashAnswer}
 use Rattle.blake2b.specs.Params.{defaults, asked, front}
 use Rattle.blake2b.specs.State.{fresh, updated, finalized, digest}
 use Rattle.blake2b.proofs.Cleaned.{good-defaults}
-use Rattle.blake2b.proofs.OneShot.{hashed-defaults}
-use Rattle.blake2b.proofs.Rows.{digest-is-hash, one-shot-is-incremental}
+use Rattle.blake2b.proofs.OneShot.{hashed-defaults, one-shot-is-incremental}
+use Rattle.blake2b.proofs.Rows.{digest-is-hash}
 
 start-plain : start BLAKE2b (asked defaults) ≡ start BLAKE2b (sequential 64 0)
 unfolding start parameterBlock pad zeros
@@ -47,5 +47,5 @@ module _ (m : List ℕ) (few : length m ≤ limit) where
   -- a fresh state, one update, and then the digest
   pub finalized-plain : finalized (updated (fresh defaults) m .state) .hash ≡ hashOf (blake2 BLAKE2b 64 [] m)
   finalized-plain =
-      ap (λ (a : HashAnswer). a .hash) (sym (one-shot-is-incremental defaults (good-defaults .clean) (good-defaults .ranged) m plain-within) ∙ hashed-defaults m few)
+      ap (λ (a : HashAnswer). a .hash) (sym (one-shot-is-incremental defaults (good-defaults .clean .whole) (good-defaults .ranged) m plain-within) ∙ hashed-defaults m few)
       ∙ ap hashOf (digest-plain m)

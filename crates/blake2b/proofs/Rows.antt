@@ -3,35 +3,32 @@
 use mathlib.Core.Path.{_≡_, refl, sym, ap, _∙_}
 use mathlib.Core.Bool.{Bool, true, false, cond}
 use mathlib.Core.List.{List, [], _∷_, _++_}
-use Prim.Native.Nat.{ℕ, zero, suc, _+_, _-_, _≤_}
-use native.Mathlib.Nat.{zero-add}
+use Prim.Native.Nat.{ℕ, zero, suc, _+_, _≤_}
 use native.Mathlib.Omega.{arith}
-use borrow.Author.Tests.{le-leb, leb-true}
+use borrow.Author.Tests.{le-leb}
 use lib.Dec.{leb}
 use lib.ListN.{length, take, length-append}
 use Rattle.definitions.specs.Words.{pad}
 use Rattle.definitions.specs.Family.{BLAKE2b}
 use Rattle.definitions.specs.Hash.{keyed, untruncated, hash}
 use Rattle.laws.specs.Buffer.{joined}
-use Rattle.laws.proofs.Lifts.{after}
 use Rattle.laws.proofs.Buffers.{Sound}
 use Rattle.laws.proofs.Buffers as buffers
-use Rattle.laws.proofs.TwoRows as rows
 use Rattle.numbers.specs.Numbers.{accepted, total-over, limit}
 use Rattle.numbers.specs.Row.{Call, answers, digested}
 use Rattle.numbers.specs.Row as row
-use Rattle.numbers.proofs.Alike.{Alike, alike-answers}
+use Rattle.members.specs.Member as calls
+use Rattle.members.proofs.Members.{Begun}
+use Rattle.members.proofs.Members as members
+use Rattle.members.proofs.Promises as promises
 use Rattle.blake2b.specs.Params.{inRange, asked, front, keyOf, withLastNode, Clean}
-use Rattle.blake2b.specs.State.{core, holding, machine, pushed, total, stateInRange, fresh, updated, finalized, counted, closedDigest, hashed}
+use Rattle.blake2b.specs.State.{core, holding, machine, pushed, stateInRange, fresh, updated, finalized, closedDigest, reads, member}
 use Rattle.blake2b.specs.State as state
 use Rattle.blake2b.specs.Row.{stateTaker, rowTaker}
 use Rattle.blake2b.specs.declared.params.Params.{Params}
 use Rattle.blake2b.specs.declared.state.State.{State}
-use Rattle.blake2b.specs.declared.state.StateAnswer.{StateAnswer}
-use Rattle.hash.proofs.Digests.{digest-of-hash}
-use Rattle.blake2b.proofs.OneShot.{digest-asked, updated-within, finalized-within}
-use Rattle.blake2b.proofs.Pushes.{front-short, length-front, sound-fresh, range-fresh, range-pushed, total-pushed, digest-after, digest-pushed}
-use Rattle.blake2b.proofs.States.{lawful, tight, store}
+use Rattle.blake2b.proofs.Pushes.{begun}
+use Rattle.blake2b.proofs.States.{lawful, tight, laws, faithful}
 
 -- the bytes of two updates are those of one
 pub pushed-pushed : (s : State) (a b : List ℕ) → pushed (pushed s a) b ≡ pushed s (a ++ b)
@@ -39,7 +36,7 @@ pushed-pushed s a b = ap (holding s) (buffers.pushed-pushed machine lawful tight
 
 -- no bytes change nothing
 pub pushed-none : (s : State) → Sound machine (core s) → pushed s [] ≡ s
-pushed-none s sound = ap (holding s) (rows.pushed-none machine lawful (core s) sound)
+pushed-none s sound = members.pushed-none member laws s sound
 
 -- behind the key block, the message: what the definitions hash
 block-keyed : (n : ℕ) (b m : List ℕ) → length b ≡ 128 → b ≡ pad 128 (take n b) → cond (leb 1 n) b [] ++ m ≡ keyed BLAKE2b (take n b) m
@@ -58,9 +55,8 @@ unfolding hash
 digest-is-hash p clean m = ap (λ (d : List ℕ). take (p .«hash_length») (untruncated BLAKE2b (asked p) (p .«last_node») d)) (front-keyed p clean m)
 
 -- the state of pieces, in any number and any cuts, empty ones included, has RFC 7693's digest of their bytes
-pub digest-of-pieces : (p : Params) → Clean p → (ps : List (List ℕ))
-    → closedDigest (after store machine lawful (fresh p) ps) ≡ hash BLAKE2b (asked p) (p .«last_node») (keyOf p) (joined ps)
-digest-of-pieces p clean ps = digest-after p (clean .whole) ps ∙ digest-is-hash p clean (joined ps)
+pub digest-of-pieces : (p : Params) → Clean p → inRange p ≡ true → (ps : List (List ℕ)) → closedDigest (calls.reached member p ps) ≡ hash BLAKE2b (asked p) (p .«last_node») (keyOf p) (joined ps)
+digest-of-pieces p clean good ps = members.digest-of-pieces member laws p (begun p (clean .whole) good) ps ∙ digest-is-hash p clean (joined ps)
 
 -- a flag that is set later is that of the parameters: digests from then on are those with it
 pub last-node-later : (p : Params) (up : Bool) (bytes : List ℕ) → state.withLastNode (pushed (fresh p) bytes) up ≡ pushed (fresh (withLastNode up p)) bytes
@@ -68,84 +64,54 @@ unfolding front
 last-node-later p up bytes = refl
 
 module _ (p : Params) (clean : Clean p) (good : inRange p ≡ true) where
+  b : Begun member p
+  b = begun p (clean .whole) good
+
+  length-keyed : (bytes : List ℕ) → length (front p) + length bytes ≡ length (keyed BLAKE2b (keyOf p) bytes)
+  length-keyed bytes = sym (length-append (front p) bytes) ∙ ap length (front-keyed p clean bytes)
+
+  -- the members' row is RFC 7693's
+  same-row : calls.rowTaker member p ≡ rowTaker (asked p) (p .«last_node») (keyOf p)
+  same-row = λ i. calls.rowWithin limit (λ bytes. length-keyed bytes i) (λ bytes. digest-is-hash p clean bytes i)
+
+  -- whatever a fresh state is asked, it answers as the row of no bytes would
+  pub history : (cs : List Call) → answers stateTaker (fresh p) cs ≡ answers (rowTaker (asked p) (p .«last_node») (keyOf p)) [] cs
+  unfolding updated finalized state.counted
+  history cs = promises.history member laws reads faithful p b cs ∙ (λ i. answers (same-row i) [] cs)
+
   -- the state of some bytes that were accepted
   module _ (bytes : List ℕ) (within : length (front p) + length bytes ≤ limit) where
     abbrev s : State
     s = pushed (fresh p) bytes
 
-    pub total-reached : total s ≡ length (front p) + length bytes
-    total-reached = total-pushed (fresh p) bytes (sound-fresh p (clean .whole)) ∙ ap (λ (n : ℕ). n + length bytes) (zero-add (length (front p)))
+    one : length (front p) + length (joined (bytes ∷ [])) ≤ limit
+    one = rw (members.joined-one bytes) within
 
     pub range-reached : stateInRange s ≡ true
-    range-reached = range-pushed (fresh p) bytes (sound-fresh p (clean .whole)) (range-fresh p (clean .whole) (digest-asked p good)) (rw (zero-add (length (front p))) within)
-
-    length-keyed : length (keyed BLAKE2b (keyOf p) bytes) ≡ length (front p) + length bytes
-    length-keyed = ap length (sym (front-keyed p clean bytes)) ∙ length-append (front p) bytes
+    range-reached = members.range-reached member laws p b (bytes ∷ []) one
 
     pub says-digest : stateTaker .digested s ≡ rowTaker (asked p) (p .«last_node») (keyOf p) .digested bytes
-    unfolding finalized
-    says-digest = rw range-reached (ap (digested accepted) (digest-of-hash (closedDigest (pushed (fresh p) bytes)) ∙ digest-pushed p (clean .whole) bytes ∙ digest-is-hash p clean bytes))
-
-    minus : (x y z : ℕ) → z ≡ x + y → z - x ≡ y
-    minus x y z e = omega arith
+    unfolding updated finalized state.counted
+    says-digest =
+        (λ i. promises.same-taker member laws reads faithful i .digested s) ∙ members.digest-reached member laws p b (bytes ∷ []) one (digested accepted) (λ n. digested n [])
+        ∙ ap (λ (d : List ℕ). digested accepted (state.digest p d)) (members.joined-one bytes) ∙ ap (digested accepted) (digest-is-hash p clean bytes)
 
     -- the count is the number of message bytes, the key block not counted
     pub says-count : stateTaker .counted s ≡ rowTaker (asked p) (p .«last_node») (keyOf p) .counted bytes
-    unfolding state.counted
+    unfolding updated finalized state.counted
     says-count =
-        rw range-reached (ap (row.counted accepted) (minus (cond (leb 1 (p .«key_length»)) 128 0) (length bytes) (total (pushed (fresh p) bytes)) (total-reached ∙ ap (λ (n : ℕ). n + length bytes) (length-front p (clean .whole)))))
+        (λ i. promises.same-taker member laws reads faithful i .counted s) ∙ members.count-reached member laws p b (bytes ∷ []) one (row.counted accepted) (λ n. row.counted n 0)
+        ∙ ap (λ (d : List ℕ). row.counted accepted (length d)) (members.joined-one bytes)
+
+    -- an update, by the row's test: the bytes of two are those of one
+    by-test : (a : List ℕ) → updated s a ≡ cond (leb (length (keyed BLAKE2b (keyOf p) bytes) + length a) limit) (reads .state accepted (pushed (fresh p) (bytes ++ a))) (reads .state total-over s)
+    unfolding updated
+    by-test a =
+        members.update-reached member laws p b (bytes ∷ []) one (reads .state accepted) (λ n. reads .state n s) a
+        ∙ (λ i. cond (leb ((ap (λ (d : List ℕ). length (front p) + length d) (members.joined-one bytes) ∙ length-keyed bytes) i + length a) limit) (reads .state accepted (pushed-pushed (fresh p) bytes a i)) (reads .state total-over s))
 
     pub updated-accepted : (a : List ℕ) → leb (length (keyed BLAKE2b (keyOf p) bytes) + length a) limit ≡ true → updated s a ≡ record { number = accepted; state = pushed (fresh p) (bytes ++ a) }
-    unfolding updated
-    updated-accepted a e =
-        let f : leb (total s + length a) limit ≡ true = ap (λ (n : ℕ). leb (n + length a) limit) (total-reached ∙ sym length-keyed) ∙ e in
-        rw (range-reached, f, pushed-pushed (fresh p) bytes a)
+    updated-accepted a e = by-test a ∙ rw e
 
     pub updated-refused : (a : List ℕ) → leb (length (keyed BLAKE2b (keyOf p) bytes) + length a) limit ≡ false → updated s a ≡ record { number = total-over; state = s }
-    unfolding updated
-    updated-refused a e =
-        let f : leb (total s + length a) limit ≡ false = ap (λ (n : ℕ). leb (n + length a) limit) (total-reached ∙ sym length-keyed) ∙ e in
-        rw (range-reached, f)
-
-    -- both at once, by the row's test
-    took : (a : List ℕ) (b : Bool) → leb (length (keyed BLAKE2b (keyOf p) bytes) + length a) limit ≡ b
-        → updated s a ≡ record { number = cond b accepted total-over; state = pushed (fresh p) (cond b (bytes ++ a) bytes) }
-    took a true e = updated-accepted a e
-    took a false e = updated-refused a e
-
-    fits : (a : List ℕ) (b : Bool) → leb (length (keyed BLAKE2b (keyOf p) bytes) + length a) limit ≡ b → length (front p) + length (cond b (bytes ++ a) bytes) ≤ limit
-    fits a true e =
-        let l = length-keyed in
-        let n = length-append bytes a in
-        omega (arith, leb-true (length (keyed BLAKE2b (keyOf p) bytes) + length a) limit e)
-    fits a false e = within
-
-  -- a state that took these bytes
-  record Took (s : State) (bytes : List ℕ) : Type 0 where
-    is : s ≡ pushed (fresh p) bytes
-    within : length (front p) + length bytes ≤ limit
-
-  stays-alike : Alike stateTaker (rowTaker (asked p) (p .«last_node») (keyOf p)) Took
-  stays-alike = record {
-    number = λ s bytes a e. ap (λ (t : State). updated t a .number) (e .is) ∙ ap (λ (u : StateAnswer). u .number) (took bytes (e .within) a _ refl);
-    next = λ s bytes a e. record {
-      is = ap (λ (t : State). updated t a .state) (e .is) ∙ ap (λ (u : StateAnswer). u .state) (took bytes (e .within) a _ refl);
-      within = fits bytes (e .within) a _ refl;
-    };
-    digested = λ s bytes e. ap (stateTaker .digested) (e .is) ∙ says-digest bytes (e .within);
-    counted = λ s bytes e. ap (stateTaker .counted) (e .is) ∙ says-count bytes (e .within);
-  }
-
-  -- whatever a fresh state is asked, it answers as the row of no bytes would
-  pub history : (cs : List Call) → answers stateTaker (fresh p) cs ≡ answers (rowTaker (asked p) (p .«last_node») (keyOf p)) [] cs
-  history cs =
-      let few = front-short p (clean .whole) in
-      alike-answers stateTaker (rowTaker (asked p) (p .«last_node») (keyOf p)) Took stays-alike cs (fresh p) []
-      (record { is = sym (pushed-none (fresh p) (sound-fresh p (clean .whole))); within = omega arith })
-
-  -- the one-shot answer is that of a state that took the message, with a key or without
-  pub one-shot-is-incremental : (m : List ℕ) → length (front p) + length m ≤ limit → hashed p m ≡ finalized (updated (fresh p) m .state)
-  unfolding hashed
-  one-shot-is-incremental m within =
-      rw (good, le-leb (length (front p) + length m) limit within)
-      (sym (ap (λ (a : StateAnswer). finalized (a .state)) (updated-within p (clean .whole) good m within) ∙ finalized-within p (clean .whole) good m within))
+    updated-refused a e = by-test a ∙ rw e

@@ -12,10 +12,10 @@ use Rattle.laws.specs.Blocks.{throughBlocks}
 use Rattle.laws.proofs.Sizes.{length-through}
 use Rattle.numbers.specs.Numbers.{accepted, bad-record}
 use Rattle.hash.specs.Hash.{isDigestLength, digestOf}
-use Rattle.blake2b.specs.State.{pending, stateInRange, closedDigest, finalized}
+use Rattle.blake2b.specs.State.{bounds, pending, stateInRange, closedDigest, finalized}
 use Rattle.blake2b.specs.declared.state.State.{State}
 use Rattle.hash.proofs.Digests.{digest-of-hash, digest-length-is}
-use Rattle.blake2b.proofs.Ranges.{in-range}
+use Rattle.members.proofs.Ranges.{in-range}
 
 pub length-closed-digest : (s : State) → s .«hash_length» ≤ 64 → length (closedDigest s) ≡ s .«hash_length»
 length-closed-digest s h =
@@ -28,6 +28,6 @@ digest-sized s e = split (stateInRange s) refl
   where
     split : (b : Bool) → stateInRange s ≡ b → isDigestLength (length (digestOf (finalized s .hash))) ≡ true
     split true f =
-        let r = in-range (s .«hash_length») (s .buflen) (s .count) (s .«is_keyed») f in
+        let r = in-range bounds (s .«hash_length») (s .buflen) (s .count) (s .«is_keyed») f in
         rw f (ap isDigestLength (ap length (digest-of-hash (closedDigest s)) ∙ length-closed-digest s (r .most)) ∙ digest-length-is (s .«hash_length») (r .least) (r .most))
     split false f = let z : bad-record ≡ accepted = rw f at e in absurd (omega arith)

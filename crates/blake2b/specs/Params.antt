@@ -1,7 +1,7 @@
 -- Parameters: the defaults, their ranges, what each setter changes, and the paper's parameters that they ask for.
 -- Assumes nothing.
-use mathlib.Core.Bool.{Bool, true, false, cond, _&&_}
-use mathlib.Core.List.{List, []}
+use mathlib.Core.Bool.{Bool, false, cond, _&&_}
+use mathlib.Core.List.{List, [], _∷_}
 use mathlib.Core.Path.{_≡_}
 use Prim.Native.Nat.{ℕ}
 use lib.Dec.{leb, eqb}
@@ -10,6 +10,7 @@ use Rattle.definitions.specs.Words.{pad}
 use Rattle.definitions.specs.Hash.{Parameters}
 use Rattle.laws.specs.Chain.{zeros}
 use Rattle.numbers.specs.Numbers.{accepted, digest-length, key-length, salt-length, personal-length, inner-length, bad-record}
+use Rattle.members.specs.Tests.{Test, test, tested}
 use Rattle.hash.specs.Hash.{isDigestLength}
 use Rattle.blake2b.specs.declared.params.Params.{Params}
 use Rattle.blake2b.specs.declared.params.ParamsAnswer.{ParamsAnswer}
@@ -35,9 +36,8 @@ unfoldable pub inRange : Params → Bool
 inRange p = isDigestLength (p .«hash_length») && (leb (p .«key_length») 64 && leb (p .«inner_hash_length») 64)
 
 -- what a setter answers: 14 where the record is bad, its own refusal where what it was given is, else the changed record
-unfoldable pub answered : Params → Bool → ℕ → Params → ParamsAnswer
-answered p ok refusal changed =
-    cond (inRange p) (cond ok (record { number = accepted; params = changed }) (record { number = refusal; params = p })) (record { number = bad-record; params = p })
+abbrev pub answered : Params → List Test → Params → ParamsAnswer
+answered p ts changed = tested (test (inRange p) bad-record ∷ ts) (record { number = accepted; params = changed }) (λ n. record { number = n; params = p })
 
 -- the number fields, by place
 abbrev pub hash-length-at : ℕ
@@ -151,14 +151,14 @@ pub data Setting : Type 0 where
   last-node : Bool → Setting
 
 abbrev pub afterSetting : Params → Setting → Params
-afterSetting p (hash-length n) = answered p (isDigestLength n) digest-length (withNumber hash-length-at n p) .params
-afterSetting p (key k) = answered p (leb (length k) 64) key-length (withKey k p) .params
-afterSetting p (salt s) = answered p (leb (length s) 16) salt-length (withSalt s p) .params
-afterSetting p (personal s) = answered p (leb (length s) 16) personal-length (withPersonal s p) .params
-afterSetting p (fanout n) = answered p true accepted (withNumber fanout-at n p) .params
-afterSetting p (max-depth n) = answered p true accepted (withNumber max-depth-at n p) .params
-afterSetting p (max-leaf-length n) = answered p true accepted (withNumber max-leaf-length-at n p) .params
-afterSetting p (node-offset n) = answered p true accepted (withNumber node-offset-at n p) .params
-afterSetting p (node-depth n) = answered p true accepted (withNumber node-depth-at n p) .params
-afterSetting p (inner-hash-length n) = answered p (leb n 64) inner-length (withNumber inner-hash-length-at n p) .params
-afterSetting p (last-node up) = answered p true accepted (withLastNode up p) .params
+afterSetting p (hash-length n) = answered p (test (isDigestLength n) digest-length ∷ []) (withNumber hash-length-at n p) .params
+afterSetting p (key k) = answered p (test (leb (length k) 64) key-length ∷ []) (withKey k p) .params
+afterSetting p (salt s) = answered p (test (leb (length s) 16) salt-length ∷ []) (withSalt s p) .params
+afterSetting p (personal s) = answered p (test (leb (length s) 16) personal-length ∷ []) (withPersonal s p) .params
+afterSetting p (fanout n) = answered p [] (withNumber fanout-at n p) .params
+afterSetting p (max-depth n) = answered p [] (withNumber max-depth-at n p) .params
+afterSetting p (max-leaf-length n) = answered p [] (withNumber max-leaf-length-at n p) .params
+afterSetting p (node-offset n) = answered p [] (withNumber node-offset-at n p) .params
+afterSetting p (node-depth n) = answered p [] (withNumber node-depth-at n p) .params
+afterSetting p (inner-hash-length n) = answered p (test (leb n 64) inner-length ∷ []) (withNumber inner-hash-length-at n p) .params
+afterSetting p (last-node up) = answered p [] (withLastNode up p) .params

@@ -1,8 +1,8 @@
 -- States: what waits and what has gone, the state that bytes lead to, and what each call answers.
 -- Assumes nothing.
-use mathlib.Core.Bool.{Bool, true, false, cond, _&&_}
+use mathlib.Core.Bool.{Bool, true, false, cond}
 use mathlib.Core.List.{List, _++_}
-use Prim.Native.Nat.{ℕ, _+_, _-_}
+use Prim.Native.Nat.{ℕ}
 use lib.Dec.{leb}
 use lib.ListN.{length, take}
 use Rattle.definitions.specs.Words.{pad}
@@ -11,11 +11,14 @@ use Rattle.definitions.specs.Hash.{start, stateBytes, untruncated}
 use Rattle.laws.specs.Chain.{zeros}
 use Rattle.laws.specs.Blocks.{onBytes, throughBlocks}
 use Rattle.laws.specs.Buffer.{Machine, Held, serial}
-use Rattle.laws.specs.Buffer as buffer
-use Rattle.numbers.specs.Numbers.{accepted, total-over, bad-record, limit}
+use Rattle.numbers.specs.Numbers.{accepted, bad-record, limit}
+use Rattle.numbers.specs.Row.{digested}
+use Rattle.numbers.specs.Row as row
+use Rattle.members.specs.Member.{Bounds, Member, Reads}
+use Rattle.members.specs.Member as calls
 use Rattle.guts.specs.declared.LastNode.{LastNode}
 use Rattle.guts.specs.declared.LastNode.the-variants as lastNode
-use Rattle.hash.specs.Hash.{isDigestLength, hashOf, noHash}
+use Rattle.hash.specs.Hash.{hashOf, digestOf, noHash}
 use Rattle.blake2b.specs.Params.{inRange, asked, front}
 use Rattle.hash.specs.declared.HashAnswer.{HashAnswer}
 use Rattle.blake2b.specs.declared.params.Params.{Params}
@@ -46,30 +49,6 @@ holding s h = record {
 abbrev pub machine : Machine (List ℕ)
 machine = serial 128 (onBytes BLAKE2b)
 
--- the bytes that wait in the buffer
-abbrev pub pending : State → List ℕ
-pending s = buffer.pending (core s)
-
--- the state s with the bytes all in place of its pending ones, k blocks of them compressed
-abbrev pub moved : State → List ℕ → ℕ → State
-moved s all k = holding s (buffer.moved machine (core s) all k)
-
--- the state s once the bytes a came
-abbrev pub pushed : State → List ℕ → State
-pushed s a = holding s (buffer.pushed machine (core s) a)
-
--- message bytes and key block bytes
-abbrev pub total : State → ℕ
-total s = s .count + s .buflen
-
--- the ranges of refusal 14
-unfoldable pub rangeOf : ℕ → ℕ → ℕ → Bool → Bool
-rangeOf hash-length buflen count keyed =
-    isDigestLength hash-length && (leb buflen 128 && (leb (count + buflen) limit && leb (cond keyed 128 0) (count + buflen)))
-
-abbrev pub stateInRange : State → Bool
-stateInRange s = rangeOf (s .«hash_length») (s .buflen) (s .count) (s .«is_keyed»)
-
 abbrev pub zeroState : State
 zeroState = record { words = zeros 8; count = 0; buf = zeros 128; buflen = 0; «last_node» = false; «hash_length» = 0; «is_keyed» = false }
 
@@ -85,15 +64,78 @@ fresh p = record {
   «is_keyed» = leb 1 (p .«key_length»);
 }
 
-unfoldable pub opened : Params → StateAnswer
-opened p = cond (inRange p) (record { number = accepted; state = fresh p }) (record { number = bad-record; state = zeroState })
+-- the digest of a whole message, behind the key block where there is a key
+abbrev pub digest : Params → List ℕ → List ℕ
+digest p m = take (p .«hash_length») (untruncated BLAKE2b (asked p) (p .«last_node») (front p ++ m))
 
--- an update: 14 where the record is bad, 6 where the total would pass the limit
+-- the longest digest, the block of the buffer, one byte for each one counted, the key block, and the limit
+abbrev pub bounds : Bounds
+bounds = record { most = 64; room = 128; unit = 1; key = 128; limit = limit }
+
+abbrev pub member : Member Params State (List ℕ)
+member = record {
+  bounds = bounds;
+  machine = machine;
+  core = core;
+  holding = holding;
+  hashLength = λ s. s .«hash_length»;
+  keyed = λ s. s .«is_keyed»;
+  close = λ s w t d. take (s .«hash_length») (stateBytes BLAKE2b (throughBlocks BLAKE2b 128 w t true (s .«last_node») d));
+  good = inRange;
+  fresh = fresh;
+  front = front;
+  ahead = λ p. length (front p);
+  digest = digest;
+}
+
+abbrev pub pending : State → List ℕ
+pending = calls.pending member
+
+abbrev pub moved : State → List ℕ → ℕ → State
+moved = calls.moved member
+
+abbrev pub pushed : State → List ℕ → State
+pushed = calls.pushed member
+
+abbrev pub total : State → ℕ
+total = calls.total member
+
+abbrev pub rangeOf : ℕ → ℕ → ℕ → Bool → Bool
+rangeOf = calls.rangeOf bounds
+
+abbrev pub stateInRange : State → Bool
+stateInRange = calls.inRange member
+
+abbrev pub closedDigest : State → List ℕ
+closedDigest = calls.closedDigest member
+
+-- this crate's records of the answers
+abbrev pub reads : Reads State StateAnswer HashAnswer CountAnswer
+reads = record {
+  state = λ n s. record { number = n; state = s };
+  made = λ d. record { number = accepted; hash = hashOf d };
+  none = noHash;
+  count = λ n c. record { number = n; count = c };
+  numberOf = λ u. u .number;
+  stateOf = λ u. u .state;
+  digestedOf = λ h. digested (h .number) (digestOf (h .hash));
+  countedOf = λ c. row.counted (c .number) (c .count);
+}
+
+unfoldable pub opened : Params → StateAnswer
+opened = calls.open-answer member reads zeroState
+
 unfoldable pub updated : State → List ℕ → StateAnswer
-updated s a =
-    cond (stateInRange s)
-    (cond (leb (total s + length a) limit) (record { number = accepted; state = pushed s a }) (record { number = total-over; state = s }))
-    (record { number = bad-record; state = s })
+updated = calls.update-answer member reads
+
+unfoldable pub finalized : State → HashAnswer
+finalized = calls.hash-answer member reads
+
+unfoldable pub counted : State → CountAnswer
+counted = calls.count-answer member reads
+
+unfoldable pub hashed : Params → List ℕ → HashAnswer
+hashed = calls.one-shot-answer member reads
 
 abbrev pub withLastNode : State → Bool → State
 withLastNode s up = record {
@@ -109,24 +151,3 @@ withLastNode s up = record {
 unfoldable pub lastNodeSet : State → Bool → StateAnswer
 lastNodeSet s up =
     cond (stateInRange s) (record { number = accepted; state = withLastNode s up }) (record { number = bad-record; state = s })
-
--- the digest of what has gone and what waits
-abbrev pub closedDigest : State → List ℕ
-closedDigest s = take (s .«hash_length») (stateBytes BLAKE2b (throughBlocks BLAKE2b 128 (s .words) (s .count) true (s .«last_node») (pending s)))
-
-unfoldable pub finalized : State → HashAnswer
-finalized s = cond (stateInRange s) (record { number = accepted; hash = hashOf (closedDigest s) }) (noHash bad-record)
-
--- the message bytes that came
-unfoldable pub counted : State → CountAnswer
-counted s = cond (stateInRange s) (record { number = accepted; count = total s - cond (s .«is_keyed») 128 0 }) (record { number = bad-record; count = 0 })
-
--- the digest of a whole message, behind the key block where there is a key
-abbrev pub digest : Params → List ℕ → List ℕ
-digest p m = take (p .«hash_length») (untruncated BLAKE2b (asked p) (p .«last_node») (front p ++ m))
-
-unfoldable pub hashed : Params → List ℕ → HashAnswer
-hashed p m =
-    cond (inRange p)
-    (cond (leb (length (front p) + length m) limit) (record { number = accepted; hash = hashOf (digest p m) }) (noHash total-over))
-    (noHash bad-record)

@@ -21,6 +21,8 @@ ghost use Rattle.definitions.specs.Words.{pad};
 ghost use Rattle.definitions.specs.Family.{BLAKE2b};
 ghost use Rattle.definitions.specs.Hash.{start};
 ghost use Rattle.numbers.specs.Numbers.{accepted, digest-length, key-length, salt-length, personal-length, inner-length};
+ghost use mathlib.Core.List.{[], _∷_};
+ghost use Rattle.members.specs.Tests.{test};
 ghost use Rattle.hash.specs.Hash.{isDigestLength};
 ghost use Rattle.blake2b.specs.Params.{defaults, inRange, asked, answered, withNumber, withKey, withSalt, withPersonal, withLastNode, hash-length-at, fanout-at, max-depth-at, max-leaf-length-at, node-offset-at, node-depth-at, inner-hash-length-at};
 
@@ -122,7 +124,7 @@ impl Params {
     }
 
     pub fn hash_length(self, length: usize) -> ParamsAnswer
-        ensures { λ r. ⌜ r ≡ answered self (isDigestLength length) digest-length (withNumber hash-length-at length self) ⌝ }
+        ensures { λ r. ⌜ r ≡ answered self (test (isDigestLength length) digest-length ∷ []) (withNumber hash-length-at length self) ⌝ }
     {
         if !self.in_range() {
             return answer(RECORD, self);
@@ -137,7 +139,7 @@ impl Params {
 
     // A key, which an empty one takes away.
     pub fn key(self, key: &[u8]) -> ParamsAnswer
-        ensures { λ r. ⌜ r ≡ answered self (leb (length (now (key .entry))) 64) key-length (withKey (now (key .entry)) self) ⌝ }
+        ensures { λ r. ⌜ r ≡ answered self (test (leb (length (now (key .entry))) 64) key-length ∷ []) (withKey (now (key .entry)) self) ⌝ }
     {
         if !self.in_range() {
             return answer(RECORD, self);
@@ -153,7 +155,7 @@ impl Params {
     }
 
     pub fn salt(self, salt: &[u8]) -> ParamsAnswer
-        ensures { λ r. ⌜ r ≡ answered self (leb (length (now (salt .entry))) 16) salt-length (withSalt (now (salt .entry)) self) ⌝ }
+        ensures { λ r. ⌜ r ≡ answered self (test (leb (length (now (salt .entry))) 16) salt-length ∷ []) (withSalt (now (salt .entry)) self) ⌝ }
     {
         if !self.in_range() {
             return answer(RECORD, self);
@@ -168,7 +170,7 @@ impl Params {
     }
 
     pub fn personal(self, personalization: &[u8]) -> ParamsAnswer
-        ensures { λ r. ⌜ r ≡ answered self (leb (length (now (personalization .entry))) 16) personal-length (withPersonal (now (personalization .entry)) self) ⌝ }
+        ensures { λ r. ⌜ r ≡ answered self (test (leb (length (now (personalization .entry))) 16) personal-length ∷ []) (withPersonal (now (personalization .entry)) self) ⌝ }
     {
         if !self.in_range() {
             return answer(RECORD, self);
@@ -183,7 +185,7 @@ impl Params {
     }
 
     pub fn fanout(self, fanout: u8) -> ParamsAnswer
-        ensures { λ r. ⌜ r ≡ answered self true accepted (withNumber fanout-at fanout self) ⌝ }
+        ensures { λ r. ⌜ r ≡ answered self [] (withNumber fanout-at fanout self) ⌝ }
     {
         if !self.in_range() {
             return answer(RECORD, self);
@@ -194,7 +196,7 @@ impl Params {
     }
 
     pub fn max_depth(self, depth: u8) -> ParamsAnswer
-        ensures { λ r. ⌜ r ≡ answered self true accepted (withNumber max-depth-at depth self) ⌝ }
+        ensures { λ r. ⌜ r ≡ answered self [] (withNumber max-depth-at depth self) ⌝ }
     {
         if !self.in_range() {
             return answer(RECORD, self);
@@ -205,7 +207,7 @@ impl Params {
     }
 
     pub fn max_leaf_length(self, length: u32) -> ParamsAnswer
-        ensures { λ r. ⌜ r ≡ answered self true accepted (withNumber max-leaf-length-at length self) ⌝ }
+        ensures { λ r. ⌜ r ≡ answered self [] (withNumber max-leaf-length-at length self) ⌝ }
     {
         if !self.in_range() {
             return answer(RECORD, self);
@@ -216,7 +218,7 @@ impl Params {
     }
 
     pub fn node_offset(self, offset: u64) -> ParamsAnswer
-        ensures { λ r. ⌜ r ≡ answered self true accepted (withNumber node-offset-at offset self) ⌝ }
+        ensures { λ r. ⌜ r ≡ answered self [] (withNumber node-offset-at offset self) ⌝ }
     {
         if !self.in_range() {
             return answer(RECORD, self);
@@ -227,7 +229,7 @@ impl Params {
     }
 
     pub fn node_depth(self, depth: u8) -> ParamsAnswer
-        ensures { λ r. ⌜ r ≡ answered self true accepted (withNumber node-depth-at depth self) ⌝ }
+        ensures { λ r. ⌜ r ≡ answered self [] (withNumber node-depth-at depth self) ⌝ }
     {
         if !self.in_range() {
             return answer(RECORD, self);
@@ -238,7 +240,7 @@ impl Params {
     }
 
     pub fn inner_hash_length(self, length: usize) -> ParamsAnswer
-        ensures { λ r. ⌜ r ≡ answered self (leb length 64) inner-length (withNumber inner-hash-length-at length self) ⌝ }
+        ensures { λ r. ⌜ r ≡ answered self (test (leb length 64) inner-length ∷ []) (withNumber inner-hash-length-at length self) ⌝ }
     {
         if !self.in_range() {
             return answer(RECORD, self);
@@ -252,7 +254,7 @@ impl Params {
     }
 
     pub fn last_node(self, last_node: bool) -> ParamsAnswer
-        ensures { λ r. ⌜ r ≡ answered self true accepted (withLastNode «last_node» self) ⌝ }
+        ensures { λ r. ⌜ r ≡ answered self [] (withLastNode «last_node» self) ⌝ }
     {
         if !self.in_range() {
             return answer(RECORD, self);

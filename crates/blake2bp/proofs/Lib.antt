@@ -4,7 +4,6 @@ pub mod MessageCount
 pub mod OneShot
 pub mod Pieces
 pub mod Plain
-pub mod Ranges
 pub mod Rows
 pub mod RunCases
 pub mod Setters

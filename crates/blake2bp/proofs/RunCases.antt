@@ -13,13 +13,15 @@ use Rattle.laws.proofs.Buffers.{Sound}
 use Rattle.laws.proofs.Buffers as buffers
 use Rattle.numbers.specs.Numbers.{accepted, limit}
 use Rattle.blake2bp.specs.Params.{defaults}
-use Rattle.blake2bp.specs.State.{core, machine, pending, totalOf, total, rangeOf, stateInRange, fresh, leafCounted, bufferedIn}
+use Rattle.blake2bp.specs.State.{core, bounds, machine, member, pending, total, stateInRange, fresh, reads, updated, leafCounted, bufferedIn}
 use Rattle.blake2bp.specs.declared.state.State.{State}
-use Rattle.blake2bp.proofs.AnyCuts.{next, updated-pushed}
+use Rattle.blake2bp.proofs.AnyCuts.{next}
 use Rattle.blake2bp.proofs.Cleaned.{good-defaults}
-use Rattle.blake2bp.proofs.Pieces.{front-plain, sound-fresh}
-use Rattle.blake2bp.proofs.Ranges.{ranged}
-use Rattle.blake2bp.proofs.States.{lawful}
+use Rattle.blake2bp.proofs.Pieces.{front-plain, begun}
+use Rattle.blake2bp.proofs.States.{lawful, laws}
+use Rattle.members.specs.Member.{totalOf, rangeOf}
+use Rattle.members.proofs.Members.{sound-fresh, updated-pushed}
+use Rattle.members.proofs.Ranges.{ranged}
 
 -- a state of 64-byte digests without a key that buffers so many bytes, at this leaf count
 record Holds (buffered leaf-count : ℕ) (s : State) : Type 0 where
@@ -34,11 +36,11 @@ pub record Shows (buffered leaf-count : ℕ) (s : State) : Type 0 where
   pub buffers : bufferedIn s ≡ record { number = accepted; buffered = buffered }
   pub counts : leafCounted s ≡ record { number = accepted; count = record { 0 = leaf-count } }
 
-in-range : (h c : ℕ) (s : State) → Holds h c s → h ≤ 1024 → totalOf c h ≤ limit → stateInRange s ≡ true
+in-range : (h c : ℕ) (s : State) → Holds h c s → h ≤ 1024 → totalOf bounds c h ≤ limit → stateInRange s ≡ true
 in-range h c s g few within =
-    (λ i. rangeOf (g .asked i) (g .held i) (g .counted i) (g .plain i)) ∙ ranged 64 h c false (record { least = omega arith; most = omega arith; held = few; within = within; front = omega arith })
+    (λ i. rangeOf bounds (g .asked i) (g .held i) (g .counted i) (g .plain i)) ∙ ranged bounds 64 h c false (record { least = omega arith; most = omega arith; held = few; within = within; front = omega arith })
 
-shows : (h c : ℕ) (s : State) → Holds h c s → h ≤ 1024 → totalOf c h ≤ limit → Shows h c s
+shows : (h c : ℕ) (s : State) → Holds h c s → h ≤ 1024 → totalOf bounds c h ≤ limit → Shows h c s
 unfolding bufferedIn leafCounted
 shows h c s g few within =
     let r = in-range h c s g few within in
@@ -48,15 +50,15 @@ shows h c s g few within =
     }
 
 -- an update of n bytes
-more : (h c n : ℕ) (s : State) (a : List ℕ) → Holds h c s → length a ≡ n → h ≤ 1024 → totalOf c h + n ≤ limit
+more : (h c n : ℕ) (s : State) (a : List ℕ) → Holds h c s → length a ≡ n → h ≤ 1024 → totalOf bounds c h + n ≤ limit
     → Holds (h + n - 512 * gone machine h (h + n)) (c + 128 * gone machine h (h + n)) (next s a)
-unfolding buffer.pushed buffer.moved
+unfolding buffer.pushed buffer.moved updated
 more h c n s a g e few within =
     let p : length (pending s) ≡ h = buffers.length-pending machine lawful (core s) (g .sound) ∙ g .held in
     let l : length (pending s ++ a) ≡ h + n = length-append (pending s) a ∙ (λ i. p i + e i) in
     let k : gone machine (length (pending s)) (length (pending s ++ a)) ≡ gone machine h (h + n) = λ i. gone machine (p i) (l i) in
     let t : total s + length a ≤ limit = omega (arith, g .held, g .counted, e, within) in
-    rw (updated-pushed s a (in-range h c s g few (omega (arith, within))) t, next)
+    rw (updated-pushed member laws (reads .state accepted) (λ k. reads .state k s) s (in-range h c s g few (omega (arith, within))) a t, next)
     (record {
       sound = buffers.sound-pushed machine lawful (core s) a (g .sound);
       held = λ i. l i - 512 * k i;
@@ -65,9 +67,9 @@ more h c n s a g e few within =
       plain = g .plain;
     })
 
-begun : Holds 0 0 (fresh defaults)
-begun = record {
-  sound = sound-fresh defaults (good-defaults .whole) (omega arith);
+empty : Holds 0 0 (fresh defaults)
+empty = record {
+  sound = sound-fresh member laws defaults (begun defaults good-defaults);
   held = ap length (front-plain defaults (good-defaults .whole) (omega arith) (omega arith));
   counted = refl;
   asked = refl;
@@ -77,11 +79,11 @@ begun = record {
 module _ (a : List ℕ) where
   pub one-of-896 : length a ≡ 896 → Shows 896 0 (next (fresh defaults) a)
   unfolding gone spare
-  one-of-896 e = shows 896 0 (next (fresh defaults) a) (more 0 0 896 (fresh defaults) a begun e (omega arith) (omega arith)) (omega arith) (omega arith)
+  one-of-896 e = shows 896 0 (next (fresh defaults) a) (more 0 0 896 (fresh defaults) a empty e (omega arith) (omega arith)) (omega arith) (omega arith)
 
   pub one-of-897 : length a ≡ 897 → Shows 385 128 (next (fresh defaults) a)
   unfolding gone spare
-  one-of-897 e = shows 385 128 (next (fresh defaults) a) (more 0 0 897 (fresh defaults) a begun e (omega arith) (omega arith)) (omega arith) (omega arith)
+  one-of-897 e = shows 385 128 (next (fresh defaults) a) (more 0 0 897 (fresh defaults) a empty e (omega arith) (omega arith)) (omega arith) (omega arith)
 
 module _ (a b c : List ℕ) (first : length a ≡ 512) (second : length b ≡ 512) where
   abbrev one : State
@@ -92,7 +94,7 @@ module _ (a b c : List ℕ) (first : length a ≡ 512) (second : length b ≡ 51
 
   both : Holds 1024 0 two
   unfolding gone spare
-  both = more 512 0 512 one b (more 0 0 512 (fresh defaults) a begun first (omega arith) (omega arith)) second (omega arith) (omega arith)
+  both = more 512 0 512 one b (more 0 0 512 (fresh defaults) a empty first (omega arith) (omega arith)) second (omega arith) (omega arith)
 
   pub two-of-512 : Shows 1024 0 two
   two-of-512 = shows 1024 0 two both (omega arith) (omega arith)
@@ -108,4 +110,4 @@ module _ (a b c : List ℕ) (first : length a ≡ 512) (second : length b ≡ 51
   -- the same 1,024 bytes at once
   pub at-once : Shows 512 128 (next (fresh defaults) (a ++ b))
   unfolding gone spare
-  at-once = shows 512 128 (next (fresh defaults) (a ++ b)) (more 0 0 1024 (fresh defaults) (a ++ b) begun (length-append a b ∙ (λ i. first i + second i)) (omega arith) (omega arith)) (omega arith) (omega arith)
+  at-once = shows 512 128 (next (fresh defaults) (a ++ b)) (more 0 0 1024 (fresh defaults) (a ++ b) empty (length-append a b ∙ (λ i. first i + second i)) (omega arith) (omega arith)) (omega arith) (omega arith)

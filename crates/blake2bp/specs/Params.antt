@@ -1,13 +1,14 @@
 -- Parameters: the defaults, their ranges, what each of the two setters changes, and the key.
 -- Assumes nothing.
-use mathlib.Core.Bool.{Bool, cond, _&&_}
-use mathlib.Core.List.{List}
+use mathlib.Core.Bool.{Bool, _&&_}
+use mathlib.Core.List.{List, [], _∷_}
 use Prim.Native.Nat.{ℕ}
 use lib.Dec.{leb}
 use lib.ListN.{length, take}
 use Rattle.definitions.specs.Words.{pad}
 use Rattle.laws.specs.Chain.{zeros}
 use Rattle.numbers.specs.Numbers.{accepted, digest-length, key-length, bad-record}
+use Rattle.members.specs.Tests.{Test, test, tested}
 use Rattle.hash.specs.Hash.{isDigestLength}
 use Rattle.blake2bp.specs.declared.params.Params.{Params}
 use Rattle.blake2bp.specs.declared.params.ParamsAnswer.{ParamsAnswer}
@@ -20,9 +21,8 @@ unfoldable pub inRange : Params → Bool
 inRange p = isDigestLength (p .«hash_length») && leb (p .«key_length») 64
 
 -- what a setter answers: 14 where the record is bad, its own refusal where what it was given is, else the changed record
-unfoldable pub answered : Params → Bool → ℕ → Params → ParamsAnswer
-answered p ok refusal changed =
-    cond (inRange p) (cond ok (record { number = accepted; params = changed }) (record { number = refusal; params = p })) (record { number = bad-record; params = p })
+unfoldable pub answered : Params → List Test → Params → ParamsAnswer
+answered p ts changed = tested (test (inRange p) bad-record ∷ ts) (record { number = accepted; params = changed }) (λ n. record { number = n; params = p })
 
 abbrev pub withHashLength : ℕ → Params → Params
 withHashLength n p = record { «hash_length» = n; «key_length» = p .«key_length»; key = p .key }
@@ -41,5 +41,5 @@ pub data Setting : Type 0 where
   key : List ℕ → Setting
 
 abbrev pub afterSetting : Params → Setting → Params
-afterSetting p (hash-length n) = answered p (isDigestLength n) digest-length (withHashLength n p) .params
-afterSetting p (key k) = answered p (leb (length k) 64) key-length (withKey k p) .params
+afterSetting p (hash-length n) = answered p (test (isDigestLength n) digest-length ∷ []) (withHashLength n p) .params
+afterSetting p (key k) = answered p (test (leb (length k) 64) key-length ∷ []) (withKey k p) .params

@@ -7,7 +7,8 @@ use lib.ListN.{length}
 use Rattle.definitions.specs.Tree.{BLAKE2bp}
 use Rattle.numbers.specs.Row.{Taker, digested, counted, row}
 use Rattle.hash.specs.Hash.{digestOf}
-use Rattle.blake2bp.specs.State.{keyRow, updated, finalized}
+use Rattle.members.specs.Member.{keyRow}
+use Rattle.blake2bp.specs.State.{bounds, updated, finalized}
 use Rattle.blake2bp.specs.State as state
 use Rattle.blake2bp.specs.declared.state.State.{State}
 
@@ -22,4 +23,4 @@ stateTaker = record {
 
 -- the row: the digest length and the key; a key block for each leaf is part of the total
 abbrev pub rowTaker : ℕ → List ℕ → Taker (List ℕ)
-rowTaker d key = row (λ bytes. keyRow (leb 1 (length key)) + length bytes) (BLAKE2bp d key)
+rowTaker d key = row (λ bytes. keyRow bounds (leb 1 (length key)) + length bytes) (BLAKE2bp d key)

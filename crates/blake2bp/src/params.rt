@@ -7,12 +7,14 @@ use numbers::DIGEST_LENGTH;
 use numbers::KEY_LENGTH;
 use numbers::RECORD;
 ghost use mathlib.Core.Path.{_≡_};
+ghost use mathlib.Core.List.{[], _∷_};
 ghost use Prim.Native.Nat.{_≤_};
 ghost use lib.Dec.{leb};
 ghost use lib.ListN.{length};
 ghost use Rattle.definitions.specs.Words.{pad};
 ghost use Rattle.laws.specs.Chain.{zeros};
 ghost use Rattle.numbers.specs.Numbers.{digest-length, key-length};
+ghost use Rattle.members.specs.Tests.{test};
 ghost use Rattle.hash.specs.Hash.{isDigestLength};
 ghost use Rattle.blake2bp.specs.Params.{defaults, inRange, answered, withHashLength, withKey};
 
@@ -81,7 +83,7 @@ impl Params {
     }
 
     pub fn hash_length(self, length: usize) -> ParamsAnswer
-        ensures { λ r. ⌜ r ≡ answered self (isDigestLength length) digest-length (withHashLength length self) ⌝ }
+        ensures { λ r. ⌜ r ≡ answered self (test (isDigestLength length) digest-length ∷ []) (withHashLength length self) ⌝ }
     {
         if !self.in_range() {
             return answer(RECORD, self);
@@ -96,7 +98,7 @@ impl Params {
 
     // A key, which an empty one takes away.
     pub fn key(self, key: &[u8]) -> ParamsAnswer
-        ensures { λ r. ⌜ r ≡ answered self (leb (length (now (key .entry))) 64) key-length (withKey (now (key .entry)) self) ⌝ }
+        ensures { λ r. ⌜ r ≡ answered self (test (leb (length (now (key .entry))) 64) key-length ∷ []) (withKey (now (key .entry)) self) ⌝ }
     {
         if !self.in_range() {
             return answer(RECORD, self);

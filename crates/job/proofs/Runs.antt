@@ -18,8 +18,7 @@ use Rattle.hash.specs.Hash.{hashOf, noHash}
 use Rattle.blake2b.specs.Params.{inRange, asked, front}
 use Rattle.blake2b.specs.State.{digest, hashed}
 use Rattle.blake2b.specs.declared.params.Params.{Params}
-use Rattle.blake2b.proofs.OneShot.{digest-asked}
-use Rattle.blake2b.proofs.Pushes.{length-front}
+use Rattle.blake2b.proofs.Pushes.{digest-asked, length-front}
 use Rattle.job.specs.Work.{zeroWork, workInRange, finishedAtOnce, keyBytes, firstWords, begun, ran, runOn, workHash}
 use Rattle.job.specs.declared.work.Work.{Work}
 use Rattle.job.proofs.Works.{run-finished, run-unfinished}

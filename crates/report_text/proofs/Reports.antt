@@ -22,7 +22,8 @@ use Rattle.blake2b.specs.declared.state.State.{State}
 use Rattle.blake2b.specs.declared.state.StateAnswer.{StateAnswer}
 use Rattle.blake2b.specs.declared.state.CountAnswer.{CountAnswer}
 use Rattle.hash.proofs.Digests.{digest-length-bounds, hash-in-range, length-hex, length-digest, length-known, answer-fits, over-accepted}
-use Rattle.blake2b.proofs.Ranges.{in-range}
+use Rattle.members.proofs.Ranges.{in-range}
+use Rattle.blake2b.specs.State.{bounds}
 use Rattle.blake2b.proofs.Sizes.{length-closed-digest}
 use Rattle.report_text.specs.Ascii.{ascii}
 use Rattle.report_text.specs.Lines.{decimal, line, lengthLines, fiveLines, unreadable, Appends}
@@ -78,7 +79,7 @@ five-appended out o₁ o₂ o₃ r₁ r₂ r₃ n count d e a b c =
 pub finalized-in-range : (s : State) {a : HashAnswer} → stateInRange s ≡ true → a ≡ finalized s → hashInRange (a .hash) ≡ true
 unfolding finalized
 finalized-in-range s {a} good e =
-    let r = in-range (s .«hash_length») (s .buflen) (s .count) (s .«is_keyed») good in
+    let r = in-range bounds (s .«hash_length») (s .buflen) (s .count) (s .«is_keyed») good in
     let l = length-closed-digest s (r .most) in
     let d : hashInRange (finalized s .hash) ≡ true = rw good (hash-in-range (closedDigest s) (omega (arith, r .least)) (omega (arith, r .most))) in
     ap (λ (b : HashAnswer). hashInRange (b .hash)) e ∙ d

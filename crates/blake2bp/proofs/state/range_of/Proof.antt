@@ -5,8 +5,9 @@ use mathlib.Core.Bool.{Bool}
 use native.Mathlib.Omega.{arith}
 use borrow.Author.Tests.{le-leb}
 use lib.Dec.{leb}
-use Rattle.blake2bp.specs.State.{totalOf, keyRow, rangeOf}
-use Rattle.blake2bp.proofs.Ranges.{range-digest, range-overfull, range-over, range-last}
+use Rattle.blake2bp.specs.State.{bounds}
+use Rattle.members.specs.Member.{totalOf, keyRow, rangeOf}
+use Rattle.members.proofs.Ranges.{range-digest, range-overfull, range-over, range-last}
 use borrow.Author.Needs.{needs}
 use Rattle.blake2bp.proofs.state.range_of.Statement.{statement}
 use Rattle.blake2bp.proofs.state.range_of.Tie as tie
@@ -15,42 +16,42 @@ returns : tie.Need-returns
 returns c =
     let d = c .before in
     let a = d .before .args in
-    range-digest (a .hash-length) (a .buf-len) (a .count .0) (a .is-keyed) (d .is-digest-length .ensures) (c .if1 .taken)
+    range-digest bounds (a .hash-length) (a .buf-len) (a .count .0) (a .is-keyed) (d .is-digest-length .ensures) (c .if1 .taken)
 
 returns-2 : tie.Need-returns-2
 returns-2 c =
     let d = c .before .before in
     let a = d .before .args in
-    range-overfull (a .hash-length) (a .buf-len) (a .count .0) (a .is-keyed) (d .is-digest-length .ensures) (c .before .if1 .left) (c .if2 .taken)
+    range-overfull bounds (a .hash-length) (a .buf-len) (a .count .0) (a .is-keyed) (d .is-digest-length .ensures) (c .before .if1 .left) (c .if2 .taken)
 
 returns-3 : tie.Need-returns-3
 returns-3 c =
     let d = c .before .before .before .before in
     let a = d .before .args in
-    range-over (a .hash-length) (a .buf-len) (a .count .0) (a .is-keyed) (d .is-digest-length .ensures) (c .before .before .before .if1 .left) (c .before .before .if2 .left) (omega (arith, c .if3 .taken))
+    range-over bounds (a .hash-length) (a .buf-len) (a .count .0) (a .is-keyed) (d .is-digest-length .ensures) (c .before .before .before .if1 .left) (c .before .before .if2 .left) (omega (arith, c .if3 .taken))
 
 returns-4 : tie.Need-returns-4
 returns-4 c =
     let d = c .before .before .before .before .before .before in
     let a = d .before .args in
-    range-over (a .hash-length) (a .buf-len) (a .count .0) (a .is-keyed) (d .is-digest-length .ensures) (c .before .before .before .before .before .if1 .left) (c .before .before .before .before .if2 .left) (omega (arith, c .if4 .taken))
+    range-over bounds (a .hash-length) (a .buf-len) (a .count .0) (a .is-keyed) (d .is-digest-length .ensures) (c .before .before .before .before .before .if1 .left) (c .before .before .before .before .if2 .left) (omega (arith, c .if4 .taken))
 
 -- all but the last test were passed
-last-test : (c : tie.Else4) → let a = c .before .before .before .before .before .before .before .args in leb (keyRow (a .is-keyed)) (totalOf (a .count .0) (a .buf-len)) ≡ rangeOf (a .hash-length) (a .buf-len) (a .count .0) (a .is-keyed)
+last-test : (c : tie.Else4) → let a = c .before .before .before .before .before .before .before .args in leb (keyRow bounds (a .is-keyed)) (totalOf bounds (a .count .0) (a .buf-len)) ≡ rangeOf bounds (a .hash-length) (a .buf-len) (a .count .0) (a .is-keyed)
 last-test c =
     let d = c .before .before .before .before .before .before in
     let a = d .before .args in
-    range-last (a .hash-length) (a .buf-len) (a .count .0) (a .is-keyed) (d .is-digest-length .ensures) (c .before .before .before .before .before .if1 .left) (c .before .before .before .before .if2 .left) (omega arith)
+    range-last bounds (a .hash-length) (a .buf-len) (a .count .0) (a .is-keyed) (d .is-digest-length .ensures) (c .before .before .before .before .before .if1 .left) (c .before .before .before .before .if2 .left) (omega arith)
 
 returns-5 : tie.Need-returns-5
 returns-5 c =
     let a = c .before .before .before .before .before .before .before .before .args in
-    ap (λ (k : Bool). leb (keyRow k) (totalOf (a .count .0) (a .buf-len))) (sym (c .if5 .taken)) ∙ last-test (c .before)
+    ap (λ (k : Bool). leb (keyRow bounds k) (totalOf bounds (a .count .0) (a .buf-len))) (sym (c .if5 .taken)) ∙ last-test (c .before)
 
 returns-6 : tie.Need-returns-6
 returns-6 c =
     let a = c .before .before .before .before .before .before .before .before .args in
-    sym (le-leb 0 (totalOf (a .count .0) (a .buf-len)) (omega arith)) ∙ ap (λ (k : Bool). leb (keyRow k) (totalOf (a .count .0) (a .buf-len))) (sym (c .if5 .left)) ∙ last-test (c .before)
+    sym (le-leb 0 (totalOf bounds (a .count .0) (a .buf-len)) (omega arith)) ∙ ap (λ (k : Bool). leb (keyRow bounds k) (totalOf bounds (a .count .0) (a .buf-len))) (sym (c .if5 .left)) ∙ last-test (c .before)
 
 pub range-of-spec : {M : Type 1} → statement M
 range-of-spec = tie.close (tie.spec (λ c κs. search needs) returns returns-2 returns-3 (λ c. search needs) (λ c. search needs) returns-4 (λ c. search needs) returns-5 returns-6)

@@ -7,9 +7,10 @@ use lib.ListN.{length}
 use Prim.Native.Nat.{_≤_}
 use Rattle.numbers.specs.Numbers.{limit}
 use Rattle.blake2b.specs.Params.{inRange}
-use Rattle.blake2b.specs.State.{fresh, updated}
+use Rattle.blake2b.specs.State.{fresh, updated, hashed}
 use Rattle.blake2b.specs.declared.state.State.{State}
-use Rattle.blake2b.proofs.OneShot.{hashed-bad, hashed-past, hashed-through, hashed-straight}
+use Rattle.members.proofs.Picks.{refused}
+use Rattle.blake2b.proofs.OneShot.{hashed-past, hashed-through, hashed-straight}
 use borrow.Author.Needs.{needs}
 use Rattle.blake2b.proofs.params.Params.hash.Statement.{statement}
 use Rattle.blake2b.proofs.params.Params.hash.Tie as tie
@@ -27,10 +28,10 @@ good : (c : tie.Else1) → inRange (begun c .args .self) ≡ true
 good c = let i = c .before .in-range in sym (i .ensures) ∙ not-false (i .result) (c .if1 .left)
 
 returns : tie.Need-returns
+unfolding hashed
 returns c =
     let i = c .before .before in
-    let a = i .before .before .args in
-    hashed-bad (a .self) (a .input .now) (i .in-range .ensures) (c .before .if1 .taken) (c .refused .ensures)
+    refused _ _ _ (i .in-range .ensures) (c .before .if1 .taken) (c .refused .ensures)
 
 -- what the update answers is that of the fresh state
 taken : (c : tie.After-update) → c .update .result ≡ updated (fresh (begun (c .before .before .before .before) .args .self)) (begun (c .before .before .before .before) .args .input .now)
@@ -59,7 +60,7 @@ returns-4 c =
     let i = w .before in
     let e = i .before .before in
     let a = begun e .args in
-    hashed-straight (a .self) (a .input .now) (good e) (i .if2 .left) (few (begun e)) (w .to-words .ensures) (n .last-node-of .ensures) (run .compress1-loop .ensures) (c .from-words .ensures)
+    hashed-straight (a .self) (whole (begun e)) (good e) (a .input .now) (i .if2 .left) (few (begun e)) (w .to-words .ensures) (n .last-node-of .ensures) (run .compress1-loop .ensures) (c .from-words .ensures)
 
 pub hash-spec : {M : Type 1} → statement M
 hash-spec = tie.close (tie.spec (λ c κs. search needs) (λ c κs. search needs) returns (λ c κs. search needs) (λ c κs. search needs) (λ c κs. search needs) returns-2 (λ c κs. search needs) returns-3 (λ c κs. search needs) (λ c κs. search needs) (λ c κs. search needs) (λ c. search needs) (λ c κs. search needs) returns-4)

@@ -4,19 +4,19 @@ use mathlib.Core.Path.{sym, _∙_}
 use borrow.Author.Tests.{not-true, not-false}
 use native.Mathlib.Omega.{arith}
 use Rattle.hash.proofs.Digests.{digest-length-bounds}
-use Rattle.blake2b.proofs.Setters.{answered-bad, answered-refused, answered-changed}
+use Rattle.members.proofs.Picks.{passed, refused, holds, fails}
 use borrow.Author.Needs.{needs}
 use Rattle.blake2b.proofs.params.Params.hash_length.Statement.{statement}
 use Rattle.blake2b.proofs.params.Params.hash_length.Tie as tie
 
 returns : tie.Need-returns
-returns c = answered-bad _ _ _ _ (c .before .before .in-range .ensures) (c .before .if1 .taken) (c .answer .ensures)
+returns c = refused _ _ _ (c .before .before .in-range .ensures) (c .before .if1 .taken) (c .answer .ensures)
 
 returns-2 : tie.Need-returns-2
 returns-2 c =
     let d = c .before .before in
     let i = d .before in
-    answered-refused _ _ _ _ (i .before .in-range .ensures) (i .if1 .left) (sym (d .is-digest-length .ensures) ∙ not-true (d .is-digest-length .result) (c .before .if2 .taken)) (c .answer2 .ensures)
+    passed _ _ _ (i .before .in-range .ensures) (i .if1 .left) (fails _ _ _ (sym (d .is-digest-length .ensures) ∙ not-true (d .is-digest-length .result) (c .before .if2 .taken)) (c .answer2 .ensures))
 
 cast-p : tie.Need-cast-p
 cast-p c =
@@ -28,7 +28,7 @@ returns-3 : tie.Need-returns-3
 returns-3 c =
     let d = c .before .before in
     let i = d .before in
-    answered-changed _ _ _ _ (i .before .in-range .ensures) (i .if1 .left) (sym (d .is-digest-length .ensures) ∙ not-false (d .is-digest-length .result) (c .before .if2 .left)) (c .answer3 .ensures)
+    passed _ _ _ (i .before .in-range .ensures) (i .if1 .left) (holds _ _ _ (sym (d .is-digest-length .ensures) ∙ not-false (d .is-digest-length .result) (c .before .if2 .left)) (c .answer3 .ensures))
 
 pub hash-length-spec : {M : Type 1} → statement M
 hash-length-spec = tie.close (tie.spec (λ c κs. search needs) (λ c κs. search needs) returns (λ c κs. search needs) (λ c κs. search needs) returns-2 cast-p (λ c κs. search needs) returns-3)

@@ -1,16 +1,15 @@
 -- `blake2b::params::Params::max_depth` meets its contract.
 -- Assumes nothing.
-use mathlib.Core.Path.{refl}
-use Rattle.blake2b.proofs.Setters.{answered-bad, answered-changed}
+use Rattle.members.proofs.Picks.{passed, refused}
 use borrow.Author.Needs.{needs}
 use Rattle.blake2b.proofs.params.Params.max_depth.Statement.{statement}
 use Rattle.blake2b.proofs.params.Params.max_depth.Tie as tie
 
 returns : tie.Need-returns
-returns c = answered-bad _ _ _ _ (c .before .before .in-range .ensures) (c .before .if1 .taken) (c .answer .ensures)
+returns c = refused _ _ _ (c .before .before .in-range .ensures) (c .before .if1 .taken) (c .answer .ensures)
 
 returns-2 : tie.Need-returns-2
-returns-2 c = answered-changed _ _ _ _ (c .before .before .in-range .ensures) (c .before .if1 .left) refl (c .answer2 .ensures)
+returns-2 c = passed _ _ _ (c .before .before .in-range .ensures) (c .before .if1 .left) (c .answer2 .ensures)
 
 pub max-depth-spec : {M : Type 1} → statement M
 max-depth-spec = tie.close (tie.spec (λ c κs. search needs) (λ c κs. search needs) returns (λ c κs. search needs) returns-2)

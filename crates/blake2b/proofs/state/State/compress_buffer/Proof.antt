@@ -1,9 +1,11 @@
 -- `blake2b::state::State::compress_buffer` meets its contract.
 -- Assumes nothing.
-use mathlib.Core.Path.{_≡_}
+use mathlib.Core.Path.{_≡_, refl}
 use native.Mathlib.Omega.{arith}
 use lib.ListN.{length}
-use Rattle.blake2b.proofs.States.{buffer-made}
+use Rattle.members.proofs.Moves.{one-gone}
+use Rattle.blake2b.specs.State.{member}
+use Rattle.blake2b.proofs.States.{laws}
 use borrow.Author.Needs.{needs}
 use Rattle.blake2b.proofs.state.State.compress_buffer.Statement.{statement}
 use Rattle.blake2b.proofs.state.State.compress_buffer.Tie as tie
@@ -22,7 +24,7 @@ returns c =
     let z = c .before in
     let r = z .before .before in
     let s = r .before .before .before .before in
-    buffer-made (s .args .self) (sized s) (s .pre .0) (r .absorbed .ensures) (z .zero-block .ensures)
+    one-gone member laws (s .args .self) (sized s) (s .pre .0) refl (r .absorbed .ensures) (z .zero-block .ensures)
 
 pub compress-buffer-spec : {M : Type 1} → statement M
 compress-buffer-spec = tie.close (tie.spec (λ c. search needs) absorbed-requires (λ c κs. search needs) (λ c. search needs) returns)

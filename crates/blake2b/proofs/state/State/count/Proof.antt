@@ -1,27 +1,26 @@
 -- `blake2b::state::State::count` meets its contract.
 -- Assumes nothing.
-use mathlib.Core.Path.{sym, ap, _∙_}
-use mathlib.Core.Bool.{Bool, cond}
+use mathlib.Core.Path.{_≡_, refl, sym, ap, _∙_}
+use mathlib.Core.Bool.{Bool}
 use Prim.Native.Nat.{_+_, _-_, _≤_}
 use native.Mathlib.Omega.{arith}
-use borrow.Author.Tests.{not-false}
-use Rattle.blake2b.specs.State.{total}
-use Rattle.blake2b.proofs.Ranges.{InRange, in-range}
-use Rattle.blake2b.proofs.States.{counted-bad, counted-all}
+use Rattle.numbers.specs.Numbers.{accepted}
+use Rattle.members.specs.Member.{keyRow}
+use Rattle.members.proofs.Ranges.{Kept, kept}
+use Rattle.members.proofs.Picks.{passed, refused}
+use Rattle.blake2b.specs.State.{total, bounds, reads, counted, member}
 use borrow.Author.Needs.{needs}
 use Rattle.blake2b.proofs.state.State.count.Statement.{statement}
 use Rattle.blake2b.proofs.state.State.count.Tie as tie
 
 returns : tie.Need-returns
+unfolding counted
 returns c =
     let i = c .before in
-    counted-bad (i .before .args .self) (i .in-range .ensures) (c .if1 .taken)
+    refused _ _ _ (i .in-range .ensures) (c .if1 .taken) refl
 
-ranged : (c : tie.Else1) → InRange (c .before .before .args .self .«hash_length») (c .before .before .args .self .buflen) (c .before .before .args .self .count) (c .before .before .args .self .«is_keyed»)
-ranged c =
-    let i = c .before in
-    let s = i .before .args .self in
-    in-range (s .«hash_length») (s .buflen) (s .count) (s .«is_keyed») (sym (i .in-range .ensures) ∙ not-false (i .in-range .result) (c .if1 .left))
+ranged : (c : tie.Else1) → Kept member (c .before .before .args .self)
+ranged c = kept member (c .before .before .args .self) (c .before .in-range .ensures) (c .if1 .left)
 
 add-all : tie.Need-add-all
 add-all c = let r = ranged (c .before) in omega (arith, r .within)
@@ -29,20 +28,24 @@ add-all c = let r = ranged (c .before) in omega (arith, r .within)
 sub-t6 : tie.Need-sub-t6
 sub-t6 c =
     let i = c .before .before in
-    let f : 128 ≤ i .before .before .args .self .count + i .before .before .args .self .buflen = rw (c .if2 .taken) at (ranged i .front) in
+    let f : 128 ≤ total (i .before .before .args .self) = rw (c .if2 .taken) at (ranged i .front) in
     omega arith
 
 returns-2 : tie.Need-returns-2
+unfolding counted
 returns-2 c =
     let i = c .before .before in
     let s = i .before .before .args .self in
-    counted-all s (i .before .in-range .ensures) (total s - 128) (i .if1 .left) (ap (λ (k : Bool). total s - cond k 128 0) (sym (c .if2 .taken)))
+    let t : s .count + s .buflen - 128 ≡ total s - 128 = omega arith in
+    passed _ _ _ (i .before .in-range .ensures) (i .if1 .left) (ap (reads .count accepted) (t ∙ ap (λ (k : Bool). total s - keyRow bounds k) (sym (c .if2 .taken))))
 
 returns-3 : tie.Need-returns-3
+unfolding counted
 returns-3 c =
     let i = c .before .before in
     let s = i .before .before .args .self in
-    counted-all s (i .before .in-range .ensures) (total s) (i .if1 .left) (omega arith ∙ ap (λ (k : Bool). total s - cond k 128 0) (sym (c .if2 .left)))
+    let t : s .count + s .buflen ≡ total s - 0 = omega arith in
+    passed _ _ _ (i .before .in-range .ensures) (i .if1 .left) (ap (reads .count accepted) (t ∙ ap (λ (k : Bool). total s - keyRow bounds k) (sym (c .if2 .left))))
 
 pub count-spec : {M : Type 1} → statement M
 count-spec = tie.close (tie.spec (λ c κs. search needs) returns add-all sub-t6 returns-2 returns-3)

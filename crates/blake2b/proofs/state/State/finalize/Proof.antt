@@ -1,13 +1,22 @@
 -- `blake2b::state::State::finalize` meets its contract.
 -- Assumes nothing.
-use mathlib.Core.Path.{_≡_, refl, sym, _∙_}
+use mathlib.Core.Path.{_≡_, ap, _∙_}
+use mathlib.Core.Bool.{true}
+use mathlib.Core.List.{List}
+use Prim.Native.Nat.{ℕ}
 use native.Mathlib.Omega.{arith}
-use borrow.Author.Tests.{not-false}
-use lib.ListN.{length, length-take}
+use lib.ListN.{length, take, length-take}
 use Rattle.laws.specs.Buffer.{pending}
-use Rattle.hash.proofs.Digests.{digest-length-is}
-use Rattle.blake2b.proofs.Ranges.{InRange, in-range}
-use Rattle.blake2b.proofs.States.{finalized-bad, finalized-made}
+use Rattle.hash.proofs.Digests.{digest-length-is, made-hash}
+use Rattle.members.proofs.Ranges.{Kept, kept}
+use Rattle.members.proofs.Picks.{passed, refused}
+use Rattle.definitions.specs.Family.{BLAKE2b}
+use Rattle.definitions.specs.Hash.{stateBytes}
+use Rattle.laws.specs.Blocks.{throughBlocks}
+use Rattle.guts.specs.Guts.{isLastNode}
+use Rattle.blake2b.specs.State.{reads, finalized, member}
+use Rattle.blake2b.specs.State as state
+use Rattle.blake2b.proofs.States.{last-node-is}
 use borrow.Author.Needs.{needs}
 use Rattle.blake2b.proofs.state.State.finalize.Statement.{statement}
 use Rattle.blake2b.proofs.state.State.finalize.Tie as tie
@@ -15,16 +24,14 @@ use Rattle.blake2b.proofs.state.State.finalize.Tie as tie
 sized : (c : tie.Start) → length (c .args .self .buf) ≡ 128
 sized c = search needs
 
-ranged : (c : tie.Else1) → InRange (c .before .before .args .self .«hash_length») (c .before .before .args .self .buflen) (c .before .before .args .self .count) (c .before .before .args .self .«is_keyed»)
-ranged c =
-    let s = c .before .before .args .self in
-    let r = c .before .range-of in
-    in-range (s .«hash_length») (s .buflen) (s .count) (s .«is_keyed») (sym (r .ensures) ∙ not-false (r .result) (c .if1 .left))
+ranged : (c : tie.Else1) → Kept member (c .before .before .args .self)
+ranged c = kept member (c .before .before .args .self) (c .before .range-of .ensures) (c .if1 .left)
 
 returns : tie.Need-returns
+unfolding finalized
 returns c =
     let r = c .before .before in
-    finalized-bad (r .before .args .self) (r .range-of .ensures) (c .before .if1 .taken) (c .refused .ensures)
+    refused _ _ _ (r .range-of .ensures) (c .before .if1 .taken) (c .refused .ensures)
 
 array-share-prefix-b : tie.Need-array-share-prefix-b
 array-share-prefix-b c =
@@ -48,15 +55,17 @@ compress1-loop-requires c κs =
     simp length-take (omega (arith, r .held, r .within))
 
 returns-2 : tie.Need-returns-2
-unfolding pending
+unfolding pending finalized
 returns-2 c =
     let run = c .before .before .before in
     let n = run .before in
     let i = n .before .before .before .before in
     let r = ranged i in
     let s = i .before .before .args .self in
-    finalized-made s (i .before .range-of .ensures) (i .if1 .left) (digest-length-is (s .«hash_length») (r .least) (r .most))
-    (n .last-node-of .ensures) (run .compress1-loop .ensures) refl (c .from-words .ensures)
+    passed _ _ _ (i .before .range-of .ensures) (i .if1 .left)
+    (made-hash (s .«hash_length») _ (digest-length-is (s .«hash_length») (r .least) (r .most)) (c .from-words .ensures)
+    ∙ ap (λ (w : List ℕ). reads .made (take (s .«hash_length») (stateBytes BLAKE2b w)))
+    (run .compress1-loop .ensures ∙ (λ j. throughBlocks BLAKE2b 128 (s .words) (s .count) true ((ap isLastNode (n .last-node-of .ensures) ∙ last-node-is (s .«last_node»)) j) (state.pending s))))
 
 pub finalize-spec : {M : Type 1} → statement M
 finalize-spec = tie.close (tie.spec (λ c κs. search needs) (λ c κs. search needs) returns array-share-prefix-b slice-aggregate-compress1-loop (λ c κs. search needs) compress1-loop-requires (λ c. search needs) (λ c κs. search needs) returns-2)

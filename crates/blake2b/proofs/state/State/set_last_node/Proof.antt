@@ -1,19 +1,23 @@
 -- `blake2b::state::State::set_last_node` meets its contract.
 -- Assumes nothing.
-use Rattle.blake2b.proofs.States.{last-node-bad, last-node-taken}
+use mathlib.Core.Path.{refl}
+use Rattle.members.proofs.Picks.{passed, refused}
+use Rattle.blake2b.specs.State.{lastNodeSet}
 use borrow.Author.Needs.{needs}
 use Rattle.blake2b.proofs.state.State.set_last_node.Statement.{statement}
 use Rattle.blake2b.proofs.state.State.set_last_node.Tie as tie
 
 returns : tie.Need-returns
+unfolding lastNodeSet
 returns c =
     let i = c .before in
-    last-node-bad (i .before .args .self) (i .in-range .ensures) (i .before .args .last-node) (c .if1 .taken)
+    refused _ _ _ (i .in-range .ensures) (c .if1 .taken) refl
 
 returns-2 : tie.Need-returns-2
+unfolding lastNodeSet
 returns-2 c =
     let i = c .before in
-    last-node-taken (i .before .args .self) (i .in-range .ensures) (i .before .args .last-node) (c .if1 .left)
+    passed _ _ _ (i .in-range .ensures) (c .if1 .left) refl
 
 pub set-last-node-spec : {M : Type 1} → statement M
 set-last-node-spec = tie.close (tie.spec (λ c κs. search needs) returns returns-2)

@@ -9,7 +9,7 @@ use Rattle.laws.specs.Chain.{spare}
 use Rattle.laws.proofs.Buffers.{Sound}
 use Rattle.laws.proofs.Lifts.{filled-held, filled-count, gone-held, gone-count, spill-is}
 use Rattle.blake2b.specs.State.{machine, core}
-use Rattle.blake2b.proofs.States.{store, lawful, sound}
+use Rattle.blake2b.proofs.States.{store, lawful}
 use borrow.Author.Needs.{needs}
 use Rattle.blake2b.proofs.state.State.spill.Statement.{statement}
 use Rattle.blake2b.proofs.state.State.spill.Tie as tie
@@ -26,7 +26,7 @@ entry : (c : tie.Start) → Entry c
 entry c = record { sized = search needs; held = search needs; more = search needs; rest = omega arith; small = search needs }
 
 sound-entry : (c : tie.Start) → Sound machine (core (c .args .self))
-sound-entry c = sound (c .args .self) (entry c .sized) (entry c .held)
+sound-entry c = record { sized = entry c .sized; held = entry c .held }
 
 sized-full : (c : tie.After-fill-buf) → length (c .fill-buf .result .buf) ≡ 128
 sized-full c = search needs

@@ -5,14 +5,16 @@ use mathlib.Core.List.{List}
 use Prim.Native.Nat.{ℕ}
 use Rattle.laws.specs.Chain.{zeros}
 use Rattle.blake2b.specs.State.{zeroState}
-use Rattle.blake2b.proofs.States.{with-parts}
+use Rattle.members.proofs.Moves.{parts}
+use Rattle.blake2b.specs.State.{member}
+use Rattle.blake2b.proofs.States.{laws}
 use borrow.Author.Needs.{needs}
 use Rattle.blake2b.proofs.state.State.zero.Statement.{statement}
 use Rattle.blake2b.proofs.state.State.zero.Tie as tie
 
 returns : tie.Need-returns
 unfolding zeros
-returns c = ap (λ (b : List ℕ). with-parts zeroState (zeros 8) 0 b 0) (c .zero-block .ensures)
+returns c = ap (λ (b : List ℕ). parts member laws zeroState (zeros 8) 0 b 0) (c .zero-block .ensures)
 
 pub zero-spec : {M : Type 1} → statement M
 zero-spec = tie.close (tie.spec (λ c κs. search needs) returns)

@@ -7,9 +7,11 @@ use borrow.Author.Tests.{not-false}
 use lib.ListN.{length}
 use Rattle.numbers.specs.Numbers.{limit}
 use Rattle.blake2bp.specs.Params.{inRange}
-use Rattle.blake2bp.specs.State.{fresh, updated}
+use Rattle.blake2bp.specs.State.{fresh, updated, hashed}
 use Rattle.blake2bp.specs.declared.state.State.{State}
-use Rattle.blake2bp.proofs.OneShot.{hashed-bad, hashed-past, hashed-through, hashed-straight}
+use Rattle.members.proofs.Picks.{refused}
+use Rattle.blake2bp.proofs.Cleaned.{Good}
+use Rattle.blake2bp.proofs.OneShot.{hashed-past, hashed-through, hashed-straight}
 use Rattle.blake2bp.proofs.Setters.{key-short}
 use borrow.Author.Needs.{needs}
 use Rattle.blake2bp.proofs.params.Params.hash.Statement.{statement}
@@ -27,11 +29,14 @@ begun c = c .before .before .before
 good : (c : tie.Else1) → inRange (begun c .args .self) ≡ true
 good c = let i = c .before .in-range in sym (i .ensures) ∙ not-false (i .result) (c .if1 .left)
 
+kept : (c : tie.Else1) → Good (begun c .args .self)
+kept c = record { ranged = good c; whole = whole (begun c) }
+
 returns : tie.Need-returns
+unfolding hashed
 returns c =
     let i = c .before .before in
-    let a = i .before .before .args in
-    hashed-bad (a .self) (a .input .now) (i .in-range .ensures) (c .before .if1 .taken) (c .refused .ensures)
+    refused _ _ _ (i .in-range .ensures) (c .before .if1 .taken) (c .refused .ensures)
 
 with-params-requires : tie.Need-with-params-requires
 with-params-requires c κs = let e = c .before .before in key-short (begun e .args .self) (good e)
@@ -45,7 +50,7 @@ returns-2 c =
     let u = c .before .before .before in
     let e = u .before .before .before .before in
     let a = begun e .args in
-    hashed-past (a .self) (whole (begun e)) (good e) (a .input .now) (taken u) (c .before .if3 .taken) (c .refused2 .ensures)
+    hashed-past (a .self) (kept e) (a .input .now) (taken u) (c .before .if3 .taken) (c .refused2 .ensures)
 
 returns-3 : tie.Need-returns-3
 returns-3 c =
@@ -53,7 +58,7 @@ returns-3 c =
     let u = i .before .before in
     let e = u .before .before .before .before in
     let a = begun e .args in
-    hashed-through (a .self) (whole (begun e)) (good e) (a .input .now) (taken u) (i .if3 .left) (c .finalize .ensures)
+    hashed-through (a .self) (kept e) (a .input .now) (taken u) (i .if3 .left) (c .finalize .ensures)
 
 returns-4 : tie.Need-returns-4
 returns-4 c =
@@ -63,7 +68,7 @@ returns-4 c =
     let i = l .before in
     let e = i .before .before in
     let a = begun e .args in
-    hashed-straight (a .self) (whole (begun e)) (good e) (a .input .now) (i .if2 .left) (few (begun e)) (l .leaf-words .ensures) (r .root-words .ensures) (f .finish-leaves .ensures) (c .finalize-root-words .ensures)
+    hashed-straight (a .self) (kept e) (a .input .now) (i .if2 .left) (few (begun e)) (l .leaf-words .ensures) (r .root-words .ensures) (f .finish-leaves .ensures) (c .finalize-root-words .ensures)
 
 pub hash-spec : {M : Type 1} → statement M
 hash-spec =

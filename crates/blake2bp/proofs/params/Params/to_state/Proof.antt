@@ -1,17 +1,20 @@
 -- `blake2bp::params::Params::to_state` meets its contract.
 -- Assumes nothing.
-use mathlib.Core.Path.{sym, _∙_}
+use mathlib.Core.Path.{sym, ap, _∙_}
 use borrow.Author.Tests.{not-false}
+use Rattle.numbers.specs.Numbers.{accepted, bad-record}
 use Rattle.blake2bp.proofs.Setters.{key-short}
-use Rattle.blake2bp.proofs.States.{opened-bad, opened-fresh}
+use Rattle.members.proofs.Picks.{passed, refused}
+use Rattle.blake2bp.specs.State.{reads, opened}
 use borrow.Author.Needs.{needs}
 use Rattle.blake2bp.proofs.params.Params.to_state.Statement.{statement}
 use Rattle.blake2bp.proofs.params.Params.to_state.Tie as tie
 
 returns : tie.Need-returns
+unfolding opened
 returns c =
     let i = c .before .before in
-    opened-bad (i .before .args .self) (i .in-range .ensures) (c .before .if1 .taken) (c .zero .ensures)
+    refused _ _ _ (i .in-range .ensures) (c .before .if1 .taken) (ap (reads .state bad-record) (c .zero .ensures))
 
 with-params-requires : tie.Need-with-params-requires
 with-params-requires c κs =
@@ -19,9 +22,10 @@ with-params-requires c κs =
     key-short (i .before .args .self) (sym (i .in-range .ensures) ∙ not-false (i .in-range .result) (c .if1 .left))
 
 returns-2 : tie.Need-returns-2
+unfolding opened
 returns-2 c =
     let i = c .before .before in
-    opened-fresh (i .before .args .self) (i .in-range .ensures) (c .before .if1 .left) (c .with-params .ensures)
+    passed _ _ _ (i .in-range .ensures) (c .before .if1 .left) (ap (reads .state accepted) (c .with-params .ensures))
 
 pub to-state-spec : {M : Type 1} → statement M
 to-state-spec = tie.close (tie.spec (λ c κs. search needs) (λ c κs. search needs) returns with-params-requires returns-2)

@@ -1,19 +1,23 @@
 -- `blake2bp::state::State::buffered` meets its contract.
 -- Assumes nothing.
-use Rattle.blake2bp.proofs.States.{buffered-bad, buffered-known}
+use mathlib.Core.Path.{refl}
+use Rattle.members.proofs.Picks.{passed, refused}
+use Rattle.blake2bp.specs.State.{bufferedIn}
 use borrow.Author.Needs.{needs}
 use Rattle.blake2bp.proofs.state.State.buffered.Statement.{statement}
 use Rattle.blake2bp.proofs.state.State.buffered.Tie as tie
 
 returns : tie.Need-returns
+unfolding bufferedIn
 returns c =
     let i = c .before in
-    buffered-bad (i .before .args .self) (i .in-range .ensures) (c .if1 .taken)
+    refused _ _ _ (i .in-range .ensures) (c .if1 .taken) refl
 
 returns-2 : tie.Need-returns-2
+unfolding bufferedIn
 returns-2 c =
     let i = c .before in
-    buffered-known (i .before .args .self) (i .in-range .ensures) (c .if1 .left)
+    passed _ _ _ (i .in-range .ensures) (c .if1 .left) refl
 
 pub buffered-spec : {M : Type 1} → statement M
 buffered-spec = tie.close (tie.spec (λ c κs. search needs) returns returns-2)

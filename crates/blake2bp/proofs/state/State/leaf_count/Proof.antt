@@ -1,19 +1,23 @@
 -- `blake2bp::state::State::leaf_count` meets its contract.
 -- Assumes nothing.
-use Rattle.blake2bp.proofs.States.{leaf-counted-bad, leaf-counted-known}
+use mathlib.Core.Path.{refl}
+use Rattle.members.proofs.Picks.{passed, refused}
+use Rattle.blake2bp.specs.State.{leafCounted}
 use borrow.Author.Needs.{needs}
 use Rattle.blake2bp.proofs.state.State.leaf_count.Statement.{statement}
 use Rattle.blake2bp.proofs.state.State.leaf_count.Tie as tie
 
 returns : tie.Need-returns
+unfolding leafCounted
 returns c =
     let i = c .before in
-    leaf-counted-bad (i .before .args .self) (i .in-range .ensures) (c .if1 .taken)
+    refused _ _ _ (i .in-range .ensures) (c .if1 .taken) refl
 
 returns-2 : tie.Need-returns-2
+unfolding leafCounted
 returns-2 c =
     let i = c .before .before in
-    leaf-counted-known (i .before .args .self) (i .in-range .ensures) (c .before .if1 .left)
+    passed _ _ _ (i .in-range .ensures) (c .before .if1 .left) refl
 
 pub leaf-count-spec : {M : Type 1} → statement M
 leaf-count-spec = tie.close (tie.spec (λ c κs. search needs) returns returns-2)

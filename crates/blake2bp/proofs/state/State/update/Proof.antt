@@ -1,14 +1,18 @@
 -- `blake2bp::state::State::update` meets its contract.
 -- Assumes nothing.
-use mathlib.Core.Path.{_≡_, sym, _∙_}
+use mathlib.Core.Path.{_≡_, refl, ap}
 use Prim.Native.Nat.{_+_, _≤_}
 use native.Mathlib.Omega.{arith}
-use borrow.Author.Tests.{not-false}
+use borrow.Author.Tests.{le-leb, lt-leb}
 use lib.ListN.{length}
-use Rattle.numbers.specs.Numbers.{limit}
+use Rattle.numbers.specs.Numbers.{accepted, limit}
 use Rattle.blake2bp.specs.State.{total}
-use Rattle.blake2bp.proofs.Ranges.{InRange, in-range}
-use Rattle.blake2bp.proofs.States.{updated-bad, updated-over, taken-long, taken-fill, taken-spill}
+use Rattle.members.proofs.Ranges.{Kept, kept}
+use Rattle.members.proofs.Picks.{passed, refused, holds, fails}
+use Rattle.blake2bp.specs.State.{pushed, reads, updated, member}
+use Rattle.blake2bp.specs.declared.state.State.{State}
+use Rattle.members.proofs.Moves.{taken-long, taken-fill, taken-spill}
+use Rattle.blake2bp.proofs.States.{laws}
 use borrow.Author.Needs.{needs}
 use Rattle.blake2bp.proofs.state.State.update.Statement.{statement}
 use Rattle.blake2bp.proofs.state.State.update.Tie as tie
@@ -20,17 +24,12 @@ sized c = search needs
 abbrev begun : tie.Else1 → tie.Start
 begun c = c .before .before .before
 
-ranged : (c : tie.Else1) → InRange (begun c .args .self .«hash_length») (begun c .args .self .«buf_len») (begun c .args .self .count .0) (begun c .args .self .«is_keyed»)
-ranged c =
-    let s = begun c .args .self in
-    let r = c .before .range-of in
-    in-range (s .«hash_length») (s .«buf_len») (s .count .0) (s .«is_keyed») (sym (r .ensures) ∙ not-false (r .result) (c .if1 .left))
+ranged : (c : tie.Else1) → Kept member (begun c .args .self)
+ranged c = kept member (begun c .args .self) (c .before .range-of .ensures) (c .if1 .left)
 
 returns : tie.Need-returns
-returns c =
-    let r = c .before in
-    let a = r .before .before .args in
-    updated-bad (a .self) (r .range-of .ensures) (a .input .now) (c .if1 .taken)
+unfolding updated
+returns c = refused _ _ _ (c .before .range-of .ensures) (c .if1 .taken) refl
 
 mul-left : tie.Need-mul-left
 mul-left c = let r = ranged (c .before) in omega (arith, r .within)
@@ -42,18 +41,27 @@ sub-left-2 : tie.Need-sub-left-2
 sub-left-2 c = let r = ranged (c .before) in omega (arith, r .within)
 
 returns-2 : tie.Need-returns-2
+unfolding updated
 returns-2 c =
     let i = c .before .before in
     let a = begun i .args in
     let r = ranged i in
-    updated-over (a .self) (i .before .range-of .ensures) (a .input .now) (i .if1 .left) (omega (arith, r .within, c .if2 .taken))
+    passed _ _ _ (i .before .range-of .ensures) (i .if1 .left) (fails _ _ _ (lt-leb (total (a .self) + length (a .input .now)) limit (omega (arith, r .within, c .if2 .taken))) refl)
 
 -- and the total stays within its limit
-abbrev passed : tie.Else2 → tie.Else1
-passed c = c .before .before
+abbrev passed-tests : tie.Else2 → tie.Else1
+passed-tests c = c .before .before
 
-within : (c : tie.Else2) → total (begun (passed c) .args .self) + length (begun (passed c) .args .input .now) ≤ limit
-within c = let r = ranged (passed c) in omega (arith, r .within, c .if2 .left)
+within : (c : tie.Else2) → total (begun (passed-tests c) .args .self) + length (begun (passed-tests c) .args .input .now) ≤ limit
+within c = let r = ranged (passed-tests c) in omega (arith, r .within, c .if2 .left)
+
+-- so every byte is taken
+taken : (c : tie.Else2) {r : State} → r ≡ pushed (begun (passed-tests c) .args .self) (begun (passed-tests c) .args .input .now)
+    → record { number = accepted; state = r } ≡ updated (begun (passed-tests c) .args .self) (begun (passed-tests c) .args .input .now)
+unfolding updated
+taken c e =
+    let i = passed-tests c in
+    passed _ _ _ (i .before .range-of .ensures) (i .if1 .left) (holds _ _ _ (le-leb _ limit (within c)) (ap (reads .state accepted) e))
 
 take-long-requires : tie.Need-take-long-requires
 take-long-requires c κs = (c .if3 .taken, omega (arith, within (c .before)))
@@ -61,41 +69,39 @@ take-long-requires c κs = (c .if3 .taken, omega (arith, within (c .before)))
 returns-3 : tie.Need-returns-3
 returns-3 c =
     let e = c .before .before in
-    let i = passed e in
+    let i = passed-tests e in
     let a = begun i .args in
-    taken-long (a .self) (i .before .range-of .ensures) (a .input .now) (i .if1 .left) (within e) (c .before .if3 .taken) (c .take-long .ensures)
+    taken e (taken-long member laws (a .self) (a .input .now) (c .before .if3 .taken) (c .take-long .ensures))
 
 sub-if4 : tie.Need-sub-if4
-sub-if4 c = ranged (passed (c .before)) .held
+sub-if4 c = ranged (passed-tests (c .before)) .held
 
 fill-buf-requires : tie.Need-fill-buf-requires
-fill-buf-requires c κs = let r = ranged (passed (c .before .before)) in omega (arith, r .held, c .if4 .taken)
+fill-buf-requires c κs = let r = ranged (passed-tests (c .before .before)) in omega (arith, r .held, c .if4 .taken)
 
 returns-4 : tie.Need-returns-4
 returns-4 c =
     let t = c .before in
     let e = t .before .before in
-    let i = passed e in
+    let i = passed-tests e in
     let a = begun i .args in
     let r = ranged i in
-    taken-fill (a .self) (i .before .range-of .ensures) (a .input .now) (i .if1 .left) (within e) (sized (begun i)) (r .held)
-    (omega (arith, t .before .if3 .left)) (omega (arith, r .held, t .if4 .taken)) (c .fill-buf .ensures)
+    taken e (taken-fill member laws (a .self) (a .input .now) (record { sized = sized (begun i); held = r .held }) (omega (arith, t .before .if3 .left)) (omega (arith, r .held, t .if4 .taken)) (c .fill-buf .ensures))
 
 spill-requires : tie.Need-spill-requires
 spill-requires c κs =
     let e = c .before .before in
-    let r = ranged (passed e) in
+    let r = ranged (passed-tests e) in
     (r .held, omega (arith, r .held, c .if4 .left), omega (arith, within e))
 
 returns-5 : tie.Need-returns-5
 returns-5 c =
     let t = c .before in
     let e = t .before .before in
-    let i = passed e in
+    let i = passed-tests e in
     let a = begun i .args in
     let r = ranged i in
-    taken-spill (a .self) (i .before .range-of .ensures) (a .input .now) (i .if1 .left) (within e) (sized (begun i)) (r .held)
-    (omega (arith, r .held, t .if4 .left)) (c .spill .ensures)
+    taken e (taken-spill member laws (a .self) (a .input .now) (record { sized = sized (begun i); held = r .held }) (omega (arith, r .held, t .if4 .left)) (c .spill .ensures))
 
 pub update-spec : {M : Type 1} → statement M
 update-spec = tie.close (tie.spec (λ c κs. search needs) returns mul-left sub-left sub-left-2 returns-2 take-long-requires returns-3 sub-if4 fill-buf-requires returns-4 spill-requires returns-5)

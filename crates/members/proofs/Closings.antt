@@ -1,0 +1,62 @@
+-- The two kinds of member, over any family: one hash, and n leaves under a root. Each may close late, and closes to the definitions' digest.
+-- Assumes nothing.
+use mathlib.Core.Path.{_≡_, refl, sym, ap, _∙_}
+use mathlib.Core.Bool.{Bool, true, false, cond}
+use mathlib.Core.List.{List, [], _++_, map}
+use Prim.Native.Nat.{ℕ, _*_, _<_, _≤_}
+use native.Mathlib.Omega.{arith}
+use borrow.Author.Tests.{leb-true, leb-false}
+use lib.Dec.{leb}
+use lib.ListN.{length, take}
+use Rattle.definitions.specs.Words.{pad}
+use Rattle.definitions.specs.Family.{Family}
+use Rattle.definitions.specs.Hash.{Parameters, start, stateBytes, untruncated}
+use Rattle.definitions.specs.Tree as tree
+use Rattle.definitions.proofs.Lengths.{length-pad}
+use Rattle.laws.specs.Blocks.{onBytes, throughBlocks}
+use Rattle.laws.specs.Buffer.{serial}
+use Rattle.laws.specs.Deal.{parallel, finished}
+use Rattle.laws.specs.Leaves.{rooted, keyedRow, leafStarts, rootStart}
+use Rattle.laws.proofs.Buffers.{Late}
+use Rattle.laws.proofs.Calls.{untruncated-through}
+use Rattle.laws.proofs.Deals.{parallel-late}
+use Rattle.laws.proofs.Images.{finished-image}
+use Rattle.laws.proofs.Serial.{serial-late}
+use Rattle.laws.proofs.Trees.{length-row, row-some, row-none, row-front, rooted-is-tree}
+
+module _ (f : Family) (some : 0 < f .bb) where
+  open Family f using (bb)
+
+  -- one hash: the digest length and the flag of the last node
+  abbrev pub one-closed : ℕ → Bool → List ℕ → ℕ → List ℕ → List ℕ
+  one-closed d node w t x = take d (stateBytes f (throughBlocks f bb w t true node x))
+
+  pub one-late : (d : ℕ) (node : Bool) → Late (serial bb (onBytes f)) (one-closed d node)
+  one-late d node = record { late = λ l t x k h. ap (λ (w : List ℕ). take d (stateBytes f w)) (serial-late bb (onBytes f) some true node .late l t x k h) }
+
+  pub one-digest : (p : Parameters) (d : ℕ) (node : Bool) (x : List ℕ) → one-closed d node (start f p) 0 x ≡ take d (untruncated f p node x)
+  one-digest p d node x = ap (take d) (sym (untruncated-through f some p node x))
+
+  -- n leaves: W is what holds a leaf's words, and F the compression on it
+  module _ (n : ℕ) (leaves : 0 < n) where
+    pub length-key-row : (key : List ℕ) → length key ≤ bb → length (keyedRow f n key []) ≡ cond (leb 1 (length key)) (n * bb) 0
+    length-key-row key short = split (leb 1 (length key)) refl
+      where
+        split : (b : Bool) → leb 1 (length key) ≡ b → length (keyedRow f n key []) ≡ cond b (n * bb) 0
+        split true e = ap length (row-some f some n leaves key (leb-true 1 (length key) e)) ∙ length-row bb n some leaves (pad bb key) (length-pad bb key short) n
+        split false e = let z = leb-false 1 (length key) e in ap length (row-none f some n leaves key [] (omega arith))
+
+    module _ {W : Type 0} (words : W → List ℕ) (F : W → List ℕ → ℕ → Bool → Bool → W)
+        (same : (w : W) (b : List ℕ) (t : ℕ) (last node : Bool) → words (F w b t last node) ≡ onBytes f (words w) b t last node) where
+      abbrev pub tree-closed : ℕ → List ℕ → List W → ℕ → List ℕ → List ℕ
+      tree-closed d root ws t x = take d (rooted f root (map words (finished bb F n ws t x)))
+
+      pub tree-late : (d : ℕ) (root : List ℕ) → Late (parallel bb F n) (tree-closed d root)
+      tree-late d root = record { late = λ l t x k h. ap (λ (ws : List W). take d (rooted f root (map words ws))) (parallel-late bb F some n leaves .late l t x k h) }
+
+      pub tree-digest : (d : ℕ) (key : List ℕ) → length key ≤ bb → (ws : List W) → map words ws ≡ leafStarts f n d (length key) → (m : List ℕ)
+          → tree-closed d (rootStart f n d (length key)) ws 0 (keyedRow f n key [] ++ m) ≡ tree.parallel f n d key m
+      tree-digest d key short ws starts m =
+          ap (λ (ls : List (List ℕ)). take d (rooted f (rootStart f n d (length key)) ls))
+          (finished-image words bb F (onBytes f) same n ws 0 (keyedRow f n key [] ++ m) ∙ (λ i. finished bb (onBytes f) n (starts i) 0 (row-front f some n leaves key m i)))
+          ∙ rooted-is-tree f some n leaves d key m short

@@ -8,7 +8,7 @@ use native.Mathlib.Omega.{arith}
 use borrow.Author.Tests.{ne-eqb}
 use lib.ListN.{length, take, drop}
 use Rattle.definitions.specs.Words.{pad}
-use Rattle.laws.specs.Chain.{zeros}
+use Rattle.laws_words.specs.Bytes.{zeros}
 use Rattle.numbers.specs.Numbers.{accepted, slot-closed, piece-outside, slot-open, pieceOk}
 use Rattle.hash.specs.Hash.{hashOf, digestOf, zeroHash}
 use Rattle.blake2b.specs.Params.{inRange}

@@ -10,7 +10,7 @@ use borrow.Author.Tests.{not-true, not-false, lt-ltb, le-ltb, eq-eqb, ne-eqb}
 use lib.ListN.{length, getD, set, drop, drop-of-length-le, length-map}
 use lib.Seq.{drop-cons}
 use Rattle.definitions.specs.Words.{pad}
-use Rattle.laws.specs.Chain.{zeros}
+use Rattle.laws_words.specs.Bytes.{zeros}
 use Rattle.numbers.specs.Numbers.{accepted, slot-number, bad-record}
 use Rattle.hash.specs.Hash.{zeroHash}
 use Rattle.hash.specs.declared.Hash.{Hash}

@@ -8,7 +8,7 @@ use native.Mathlib.Omega.{arith}
 use borrow.Author.Tests.{eqb-false, eq-eqb, ne-eqb}
 use lib.Dec.{leb, eqb}
 use lib.ListN.{length}
-use Rattle.laws.specs.Buffer.{over}
+use Rattle.laws_words.specs.Bytes.{over}
 use Rattle.numbers.specs.Numbers.{accepted, slot-closed}
 use Rattle.hash.specs.Hash.{isDigestLength, hashInRange, hashOf, digestOf, mayWrite, writtenAnswered, writtenOver}
 use Rattle.hash.specs.declared.LengthAnswer.{LengthAnswer}

@@ -6,9 +6,9 @@ use Prim.Native.Nat.{ℕ, suc, _-_, _*_}
 use native.Mathlib.Nat.{zero-add}
 use lib.ListN.{length, drop}
 use Rattle.definitions.specs.Words.{pad}
-use Rattle.laws.specs.Chain.{spare}
-use Rattle.laws.specs.Buffer as buffer
-use Rattle.laws.proofs.Tails.{rows-gone, bytes-held, tail-zero, exact-row-held}
+use Rattle.laws_blocks.specs.Chain.{spare}
+use Rattle.laws_states.specs.Buffer as buffer
+use Rattle.laws_states.proofs.Tails.{rows-gone, bytes-held, tail-zero, exact-row-held}
 use Rattle.blake2b.specs.Params.{front}
 use Rattle.blake2b.specs.State.{core, machine, pending, pushed, fresh}
 use Rattle.blake2b.specs.declared.params.Params.{Params}

@@ -11,7 +11,7 @@ use lib.ListN.{length, replicate}
 use lib.Seq.{take-append-seam}
 use Rattle.definitions.specs.Words.{pad}
 use Rattle.definitions.proofs.Lengths.{length-pad}
-use Rattle.laws.specs.Chain.{zeros}
+use Rattle.laws_words.specs.Bytes.{zeros}
 use Rattle.numbers.specs.Numbers.{accepted, digest-length, key-length, salt-length, personal-length, inner-length, bad-record}
 use Rattle.members.specs.Tests.{Test, test}
 use Rattle.members.proofs.Picks.{All, tested-keeps}

@@ -10,7 +10,7 @@ use borrow.Author.Tests.{lt-leb}
 use lib.ListN.{length, take}
 use Rattle.definitions.specs.Family.{BLAKE2b}
 use Rattle.definitions.specs.Hash.{start, stateBytes}
-use Rattle.laws.specs.Blocks.{throughBlocks}
+use Rattle.laws_blocks.specs.Blocks.{throughBlocks}
 use Rattle.numbers.specs.Numbers.{accepted, total-over, limit}
 use Rattle.guts.specs.Guts.{isLastNode}
 use Rattle.guts.specs.declared.LastNode.{LastNode}

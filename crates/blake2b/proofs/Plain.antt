@@ -10,8 +10,8 @@ use lib.Seq.{length-take-le}
 use Rattle.definitions.specs.Words.{pad}
 use Rattle.definitions.specs.Family.{BLAKE2b}
 use Rattle.definitions.specs.Hash.{sequential, parameterBlock, start, keyed, calls, compress, stateBytes, untruncated, hash, blake2}
-use Rattle.laws.specs.Chain.{zeros}
-use Rattle.laws.proofs.Sizes.{length-whole}
+use Rattle.laws_words.specs.Bytes.{zeros}
+use Rattle.laws_blocks.proofs.Sizes.{length-whole}
 use Rattle.numbers.specs.Numbers.{limit}
 use Rattle.hash.specs.Hash.{hashOf}
 use Rattle.hash.specs.declared.HashAnswer.{HashAnswer}

@@ -9,9 +9,9 @@ use lib.Dec.{leb}
 use lib.ListN.{length}
 use Rattle.definitions.specs.Family.{BLAKE2b}
 use Rattle.definitions.proofs.Lengths.{length-pad}
-use Rattle.laws.specs.Buffer as buffer
-use Rattle.laws.proofs.Buffers.{Sound}
-use Rattle.laws.proofs.Buffers as buffers
+use Rattle.laws_states.specs.Buffer as buffer
+use Rattle.laws_states.proofs.Buffers.{Sound}
+use Rattle.laws_states.proofs.Buffers as buffers
 use Rattle.members.proofs.Closings.{one-digest}
 use Rattle.members.proofs.Members.{Begun}
 use Rattle.hash.specs.Hash.{isDigestLength}

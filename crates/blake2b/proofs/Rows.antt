@@ -11,9 +11,9 @@ use lib.ListN.{length, take, length-append}
 use Rattle.definitions.specs.Words.{pad}
 use Rattle.definitions.specs.Family.{BLAKE2b}
 use Rattle.definitions.specs.Hash.{keyed, untruncated, hash}
-use Rattle.laws.specs.Buffer.{joined}
-use Rattle.laws.proofs.Buffers.{Sound}
-use Rattle.laws.proofs.Buffers as buffers
+use Rattle.laws_states.specs.Buffer.{joined}
+use Rattle.laws_states.proofs.Buffers.{Sound}
+use Rattle.laws_states.proofs.Buffers as buffers
 use Rattle.numbers.specs.Numbers.{accepted, total-over, limit}
 use Rattle.numbers.specs.Row.{Call, answers, digested}
 use Rattle.numbers.specs.Row as row

@@ -8,8 +8,8 @@ use lib.ListN.{length}
 use lib.Seq.{length-take-le}
 use Rattle.definitions.specs.Family.{BLAKE2b}
 use Rattle.definitions.specs.Hash.{stateBytes}
-use Rattle.laws.specs.Blocks.{throughBlocks}
-use Rattle.laws.proofs.Sizes.{length-through}
+use Rattle.laws_blocks.specs.Blocks.{throughBlocks}
+use Rattle.laws_blocks.proofs.Sizes.{length-through}
 use Rattle.numbers.specs.Numbers.{accepted, bad-record}
 use Rattle.hash.specs.Hash.{isDigestLength, digestOf}
 use Rattle.blake2b.specs.State.{bounds, pending, stateInRange, closedDigest, finalized}

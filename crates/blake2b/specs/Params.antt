@@ -8,7 +8,7 @@ use lib.Dec.{leb, eqb}
 use lib.ListN.{length, take}
 use Rattle.definitions.specs.Words.{pad}
 use Rattle.definitions.specs.Hash.{Parameters}
-use Rattle.laws.specs.Chain.{zeros}
+use Rattle.laws_words.specs.Bytes.{zeros}
 use Rattle.numbers.specs.Numbers.{accepted, digest-length, key-length, salt-length, personal-length, inner-length, bad-record}
 use Rattle.members.specs.Tests.{Test, test, tested}
 use Rattle.hash.specs.Hash.{isDigestLength}

@@ -8,9 +8,9 @@ use lib.ListN.{length, take}
 use Rattle.definitions.specs.Words.{pad}
 use Rattle.definitions.specs.Family.{BLAKE2b}
 use Rattle.definitions.specs.Hash.{start, stateBytes, untruncated}
-use Rattle.laws.specs.Chain.{zeros}
-use Rattle.laws.specs.Blocks.{onBytes, throughBlocks}
-use Rattle.laws.specs.Buffer.{Machine, Held, serial}
+use Rattle.laws_words.specs.Bytes.{zeros}
+use Rattle.laws_blocks.specs.Blocks.{onBytes, throughBlocks}
+use Rattle.laws_states.specs.Buffer.{Machine, Held, serial}
 use Rattle.numbers.specs.Numbers.{accepted, bad-record, limit}
 use Rattle.numbers.specs.Row.{digested}
 use Rattle.numbers.specs.Row as row

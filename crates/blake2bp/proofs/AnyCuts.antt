@@ -6,8 +6,8 @@ use mathlib.Core.List.{List, [], foldl}
 use Prim.Native.Nat.{ℕ, _+_, _≤_}
 use lib.ListN.{length}
 use Rattle.definitions.specs.Words.{pad}
-use Rattle.laws.specs.Buffer.{joined}
-use Rattle.laws.proofs.Buffers.{Sound}
+use Rattle.laws_states.specs.Buffer.{joined}
+use Rattle.laws_states.proofs.Buffers.{Sound}
 use Rattle.numbers.specs.Numbers.{accepted, limit}
 use Rattle.members.specs.Member.{reached}
 use Rattle.members.proofs.Members as members

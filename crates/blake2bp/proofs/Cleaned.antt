@@ -8,7 +8,7 @@ use borrow.Author.Tests.{le-leb, leb-true}
 use lib.Dec.{leb}
 use lib.ListN.{length}
 use Rattle.definitions.proofs.Lengths.{length-pad}
-use Rattle.laws.specs.Chain.{zeros}
+use Rattle.laws_words.specs.Bytes.{zeros}
 use Rattle.numbers.specs.Numbers.{accepted, bad-record}
 use Rattle.members.specs.Tests.{Test, test}
 use Rattle.members.proofs.Picks.{All, tested-keeps}

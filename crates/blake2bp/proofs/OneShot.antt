@@ -6,8 +6,8 @@ use Prim.Native.Nat.{ℕ, _+_, _≤_}
 use native.Mathlib.Nat.{zero-add}
 use lib.ListN.{length, take}
 use Rattle.definitions.specs.Family.{BLAKE2b}
-use Rattle.laws.specs.Deal.{finished}
-use Rattle.laws.specs.Leaves.{rooted, leafStarts, rootStart}
+use Rattle.laws_states.specs.Deal.{finished}
+use Rattle.laws_states.specs.Leaves.{rooted, leafStarts, rootStart}
 use Rattle.numbers.specs.Numbers.{accepted, total-over, limit}
 use Rattle.members.proofs.Promises as promises
 use Rattle.hash.specs.Hash.{hashOf, noHash, madeFrom}

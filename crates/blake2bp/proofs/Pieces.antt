@@ -11,10 +11,10 @@ use lib.ListN.{length}
 use lib.Seq.{length-take-le}
 use Rattle.definitions.specs.Words.{pad}
 use Rattle.definitions.specs.Family.{BLAKE2b}
-use Rattle.laws.specs.Chain.{zeros}
-use Rattle.laws.specs.Leaves.{rowOf, leafStarts, rootStart}
-use Rattle.laws.proofs.Pastes.{pad-none}
-use Rattle.laws.proofs.Trees.{row-some, row-none}
+use Rattle.laws_words.specs.Bytes.{zeros}
+use Rattle.laws_states.specs.Leaves.{rowOf, leafStarts, rootStart}
+use Rattle.laws_states.proofs.Pastes.{pad-none}
+use Rattle.laws_states.proofs.Trees.{row-some, row-none}
 use Rattle.members.specs.Member.{keyRow}
 use Rattle.members.proofs.Members.{Begun}
 use Rattle.members.proofs.Closings.{length-key-row, tree-closed, tree-digest}

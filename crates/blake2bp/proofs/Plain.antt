@@ -11,7 +11,7 @@ use Rattle.definitions.specs.Words.{from}
 use Rattle.definitions.specs.Family.{BLAKE2b}
 use Rattle.definitions.specs.Hash.{untruncated}
 use Rattle.definitions.specs.Tree.{parameters, leaf, parallel, BLAKE2bp}
-use Rattle.laws.proofs.Sizes.{length-whole}
+use Rattle.laws_blocks.proofs.Sizes.{length-whole}
 use Rattle.blake2bp.specs.Params.{defaults}
 use Rattle.blake2bp.specs.State.{digest}
 

@@ -6,11 +6,11 @@ use mathlib.Core.List.{List, _++_}
 use Prim.Native.Nat.{ℕ, _+_, _-_, _*_, _≤_}
 use native.Mathlib.Omega.{arith}
 use lib.ListN.{length, length-append}
-use Rattle.laws.specs.Chain.{spare}
-use Rattle.laws.specs.Buffer.{gone}
-use Rattle.laws.specs.Buffer as buffer
-use Rattle.laws.proofs.Buffers.{Sound}
-use Rattle.laws.proofs.Buffers as buffers
+use Rattle.laws_blocks.specs.Chain.{spare}
+use Rattle.laws_states.specs.Buffer.{gone}
+use Rattle.laws_states.specs.Buffer as buffer
+use Rattle.laws_states.proofs.Buffers.{Sound}
+use Rattle.laws_states.proofs.Buffers as buffers
 use Rattle.numbers.specs.Numbers.{accepted, limit}
 use Rattle.blake2bp.specs.Params.{defaults}
 use Rattle.blake2bp.specs.State.{core, bounds, machine, member, pending, total, stateInRange, fresh, reads, updated, leafCounted, bufferedIn}

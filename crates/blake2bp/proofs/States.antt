@@ -4,9 +4,9 @@ use mathlib.Core.Path.{refl, ap}
 use mathlib.Core.List.{List}
 use native.Mathlib.Omega.{arith}
 use Rattle.definitions.specs.Family.{BLAKE2b}
-use Rattle.laws.proofs.Buffers.{Lawful}
-use Rattle.laws.proofs.Lifts.{Store}
-use Rattle.laws.proofs.Deals.{parallel-lawful}
+use Rattle.laws_states.proofs.Buffers.{Lawful}
+use Rattle.laws_states.proofs.Lifts.{Store}
+use Rattle.laws_states.proofs.Deals.{parallel-lawful}
 use Rattle.numbers.specs.Numbers.{accepted}
 use Rattle.numbers.specs.Row.{digested}
 use Rattle.members.proofs.Members.{Laws}

@@ -6,7 +6,7 @@ use Prim.Native.Nat.{ℕ}
 use lib.Dec.{leb}
 use lib.ListN.{length, take}
 use Rattle.definitions.specs.Words.{pad}
-use Rattle.laws.specs.Chain.{zeros}
+use Rattle.laws_words.specs.Bytes.{zeros}
 use Rattle.numbers.specs.Numbers.{accepted, digest-length, key-length, bad-record}
 use Rattle.members.specs.Tests.{Test, test, tested}
 use Rattle.hash.specs.Hash.{isDigestLength}

@@ -8,10 +8,10 @@ use lib.ListN.{length, take, replicate}
 use Rattle.definitions.specs.Words.{pad}
 use Rattle.definitions.specs.Family.{BLAKE2b}
 use Rattle.definitions.specs.Tree.{BLAKE2bp}
-use Rattle.laws.specs.Chain.{zeros}
-use Rattle.laws.specs.Buffer.{Machine, Held}
-use Rattle.laws.specs.Deal.{parallel, finished}
-use Rattle.laws.specs.Leaves.{rooted, keyedRow, leafStarts, rootStart}
+use Rattle.laws_words.specs.Bytes.{zeros}
+use Rattle.laws_states.specs.Buffer.{Machine, Held}
+use Rattle.laws_states.specs.Deal.{parallel, finished}
+use Rattle.laws_states.specs.Leaves.{rooted, keyedRow, leafStarts, rootStart}
 use Rattle.numbers.specs.Numbers.{accepted, bad-record, limit}
 use Rattle.numbers.specs.Row.{digested}
 use Rattle.numbers.specs.Row as row

@@ -12,7 +12,7 @@ ghost use Prim.Native.Nat.{_≤_};
 ghost use lib.Dec.{leb};
 ghost use lib.ListN.{length};
 ghost use Rattle.definitions.specs.Words.{pad};
-ghost use Rattle.laws.specs.Chain.{zeros};
+ghost use Rattle.laws_words.specs.Bytes.{zeros};
 ghost use Rattle.numbers.specs.Numbers.{digest-length, key-length};
 ghost use Rattle.members.specs.Tests.{test};
 ghost use Rattle.hash.specs.Hash.{isDigestLength};

@@ -9,7 +9,7 @@ ghost use Rattle.definitions.specs.Words.{_!_};
 ghost use Rattle.definitions.specs.Family.{BLAKE2b};
 ghost use Rattle.definitions.specs.Compress.{ones, roundsTo, F};
 ghost use Rattle.definitions.specs.Hash as Hash;
-ghost use Rattle.laws.specs.Halves.{Order, ordered, columnsOf, diagonalsOf, initial, foldHalves};
+ghost use Rattle.laws_words.specs.Halves.{Order, ordered, columnsOf, diagonalsOf, initial, foldHalves};
 
 pub const IV: [u64; 8] = [
     0x6A09E667F3BCC908,

@@ -4,8 +4,8 @@ ghost use mathlib.Core.Path.{_≡_};
 ghost use Prim.Native.Nat.{_/_, _%_, _^_, _≤_};
 ghost use lib.ListN.{length, drop};
 ghost use Rattle.definitions.specs.Words.{pad};
-ghost use Rattle.laws.specs.Chain.{zeros};
-ghost use Rattle.laws.specs.Offsets.{paddedBuffer, finalBlock};
+ghost use Rattle.laws_words.specs.Bytes.{zeros};
+ghost use Rattle.laws_blocks.specs.Offsets.{paddedBuffer, finalBlock};
 ghost use Rattle.guts.specs.Guts.{finalizes, isLastNode, paddedBlockbytes, finalFacts};
 
 pub enum Finalize {

@@ -10,8 +10,8 @@ use lib.Dec.{leb, eqb}
 use lib.ListN.{length, take, drop, replicate, length-append, length-drop}
 use lib.Seq.{take-append-seam, drop-append-seam, length-take-le}
 use Rattle.definitions.specs.Words.{pad}
-use Rattle.laws.specs.Buffer.{over}
-use Rattle.laws.proofs.Bytes.{pad-whole}
+use Rattle.laws_words.specs.Bytes.{over}
+use Rattle.laws_words.proofs.Bytes.{pad-whole}
 use Rattle.numbers.specs.Numbers.{accepted, digest-length, output-short, bad-record}
 use Rattle.hash.specs.Hash.{isDigestLength, hashInRange, hashOf, digestOf, zeroHash, noHash, madeFrom, lengthAnswered, sameBytes, compared, hexOf, mayWrite, writtenAnswered, writtenOver, writtenPart}
 use Rattle.hash.specs.declared.Hash.{Hash}

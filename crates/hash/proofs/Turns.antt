@@ -11,7 +11,7 @@ use lib.Dec.{eqb}
 use lib.ListN.{length, take, drop, set, length-append, drop-of-length-le}
 use lib.Seq.{drop-cons, set-at, append-snoc, take-suc, length-take-le}
 use Rattle.definitions.specs.Words.{_!_}
-use Rattle.laws.specs.Buffer.{over}
+use Rattle.laws_words.specs.Bytes.{over}
 use Rattle.hash.specs.Hash.{sameBytes, digitOf, hexOf}
 use Rattle.hash.proofs.Digests.{length-hex}
 

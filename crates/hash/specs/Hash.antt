@@ -6,8 +6,7 @@ use Prim.Native.Nat.{ℕ, _+_, _/_, _%_}
 use lib.Dec.{leb, ltb, eqb}
 use lib.ListN.{length, take}
 use Rattle.definitions.specs.Words.{pad}
-use Rattle.laws.specs.Chain.{zeros}
-use Rattle.laws.specs.Buffer.{over}
+use Rattle.laws_words.specs.Bytes.{zeros, over}
 use Rattle.numbers.specs.Numbers.{accepted, digest-length, bad-record}
 use Rattle.hash.specs.Output.{wrote}
 use Rattle.hash.specs.declared.Hash.{Hash}

@@ -5,7 +5,7 @@ use mathlib.Core.List.{List}
 use Prim.Native.Nat.{ℕ}
 use lib.Dec.{leb}
 use lib.ListN.{length}
-use Rattle.laws.specs.Buffer.{over}
+use Rattle.laws_words.specs.Bytes.{over}
 use Rattle.numbers.specs.Numbers.{accepted, output-short}
 use Rattle.hash.specs.declared.LengthAnswer.{LengthAnswer}
 

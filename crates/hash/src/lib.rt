@@ -12,8 +12,7 @@ ghost use lib.ListN.{length, take};
 ghost use Rattle.definitions.specs.Words.{pad};
 ghost use Rattle.definitions.specs.Family.{BLAKE2b};
 ghost use Rattle.definitions.specs.Hash.{stateBytes};
-ghost use Rattle.laws.specs.Chain.{zeros};
-ghost use Rattle.laws.specs.Buffer.{over};
+ghost use Rattle.laws_words.specs.Bytes.{zeros, over};
 ghost use Rattle.hash.specs.Hash.{isDigestLength, hashInRange, hashOf, digestOf, zeroHash, noHash, madeFrom, lengthAnswered, sameBytes, compared, digitOf, hexOf, writtenAnswered, writtenOver, writtenPart};
 
 // The most bytes that a digest has.

@@ -10,9 +10,9 @@ use lib.Dec.{leb, eqb}
 use lib.ListN.{length, take}
 use Rattle.definitions.specs.Family.{BLAKE2b}
 use Rattle.definitions.specs.Hash.{start, stateBytes}
-use Rattle.laws.specs.Blocks.{onBytes, throughBlocks}
-use Rattle.laws.proofs.Calls.{untruncated-through}
-use Rattle.laws.proofs.Fronts.{through-behind}
+use Rattle.laws_blocks.specs.Blocks.{onBytes, throughBlocks}
+use Rattle.laws_blocks.proofs.Calls.{untruncated-through}
+use Rattle.laws_blocks.proofs.Fronts.{through-behind}
 use Rattle.numbers.specs.Numbers.{accepted, job-unfinished, bad-record, limit}
 use Rattle.hash.specs.Hash.{hashOf, noHash}
 use Rattle.blake2b.specs.Params.{inRange, asked, front}

@@ -9,7 +9,7 @@ use borrow.Author.Tests.{not-true, not-false, le-leb, lt-leb, leb-true, leb-fals
 use lib.Dec.{leb}
 use Rattle.definitions.specs.Family.{BLAKE2b}
 use Rattle.definitions.specs.Hash.{start, stateBytes}
-use Rattle.laws.specs.Blocks.{throughBlocks}
+use Rattle.laws_blocks.specs.Blocks.{throughBlocks}
 use Rattle.numbers.specs.Numbers.{job-unfinished, bad-record, limit}
 use Rattle.hash.specs.Hash.{isDigestLength, noHash, madeFrom}
 use Rattle.blake2b.specs.Params.{asked}

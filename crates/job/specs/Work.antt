@@ -7,8 +7,8 @@ use lib.Dec.{leb, eqb}
 use lib.ListN.{take}
 use Rattle.definitions.specs.Family.{BLAKE2b}
 use Rattle.definitions.specs.Hash.{start, stateBytes}
-use Rattle.laws.specs.Chain.{zeros}
-use Rattle.laws.specs.Blocks.{throughBlocks}
+use Rattle.laws_words.specs.Bytes.{zeros}
+use Rattle.laws_blocks.specs.Blocks.{throughBlocks}
 use Rattle.numbers.specs.Numbers.{accepted, job-unfinished, bad-record, limit}
 use Rattle.hash.specs.Hash.{isDigestLength, hashOf, noHash}
 use Rattle.blake2b.specs.Params.{asked}

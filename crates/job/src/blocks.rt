@@ -8,7 +8,7 @@ ghost use mathlib.Core.Bool.{_&&_};
 ghost use Prim.Native.Nat.{_+_, _^_, _<_};
 ghost use lib.ListN.{length};
 ghost use Rattle.definitions.specs.Family.{BLAKE2b};
-ghost use Rattle.laws.specs.Blocks.{throughBlocks};
+ghost use Rattle.laws_blocks.specs.Blocks.{throughBlocks};
 ghost use Rattle.guts.specs.Guts.{finalizes, isLastNode};
 
 fn finalize_if(yes: bool) -> Finalize

@@ -10,13 +10,13 @@ use Rattle.definitions.specs.Words.{pad}
 use Rattle.definitions.specs.Family.{BLAKE2b}
 use Rattle.definitions.specs.Hash.{start, parameterBlock, stateBytes}
 use Rattle.definitions.specs.Tree.{parameters}
-use Rattle.laws.specs.Chain.{through}
-use Rattle.laws.specs.Blocks.{onBytes, throughBlocks}
-use Rattle.laws.specs.Deal.{each}
-use Rattle.laws.specs.Leaves.{leafStarts}
-use Rattle.laws.proofs.Deals.{each-turn}
-use Rattle.laws.proofs.Images.{through-image}
-use Rattle.laws.proofs.Pastes.{paste-padded}
+use Rattle.laws_blocks.specs.Chain.{through}
+use Rattle.laws_blocks.specs.Blocks.{onBytes, throughBlocks}
+use Rattle.laws_states.specs.Deal.{each}
+use Rattle.laws_states.specs.Leaves.{leafStarts}
+use Rattle.laws_states.proofs.Deals.{each-turn}
+use Rattle.laws_states.proofs.Images.{through-image}
+use Rattle.laws_states.proofs.Pastes.{paste-padded}
 use Rattle.leaves.specs.Leaves.{leafOf, wordsOf, stateOf, onLeaf}
 use Rattle.leaves.specs.declared.leaves.Leaf.{Leaf}
 

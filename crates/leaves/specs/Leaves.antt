@@ -5,7 +5,7 @@ use mathlib.Core.List.{List}
 use Prim.Native.Nat.{ℕ}
 use Rattle.definitions.specs.Family.{BLAKE2b}
 use Rattle.definitions.specs.Hash.{stateBytes}
-use Rattle.laws.specs.Blocks.{onBytes}
+use Rattle.laws_blocks.specs.Blocks.{onBytes}
 use Rattle.leaves.specs.declared.leaves.Leaf.{Leaf}
 
 abbrev pub leafOf : List ℕ → Leaf

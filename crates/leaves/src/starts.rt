@@ -8,7 +8,7 @@ ghost use mathlib.Core.List.{map};
 ghost use Rattle.definitions.specs.Family.{BLAKE2b};
 ghost use Rattle.definitions.specs.Hash.{start};
 ghost use Rattle.definitions.specs.Tree.{parameters};
-ghost use Rattle.laws.specs.Leaves.{leafStarts, rootStart};
+ghost use Rattle.laws_states.specs.Leaves.{leafStarts, rootStart};
 ghost use Rattle.leaves.specs.Leaves.{leafOf};
 
 fn node_words(hash_length: u8, key_length: u8, offset: u64, depth: u8) -> [u64; 8]

@@ -13,16 +13,16 @@ use Rattle.definitions.specs.Family.{Family}
 use Rattle.definitions.specs.Hash.{Parameters, start, stateBytes, untruncated}
 use Rattle.definitions.specs.Tree as tree
 use Rattle.definitions.proofs.Lengths.{length-pad}
-use Rattle.laws.specs.Blocks.{onBytes, throughBlocks}
-use Rattle.laws.specs.Buffer.{serial}
-use Rattle.laws.specs.Deal.{parallel, finished}
-use Rattle.laws.specs.Leaves.{rooted, keyedRow, leafStarts, rootStart}
-use Rattle.laws.proofs.Buffers.{Late}
-use Rattle.laws.proofs.Calls.{untruncated-through}
-use Rattle.laws.proofs.Deals.{parallel-late}
-use Rattle.laws.proofs.Images.{finished-image}
-use Rattle.laws.proofs.Serial.{serial-late}
-use Rattle.laws.proofs.Trees.{length-row, row-some, row-none, row-front, rooted-is-tree}
+use Rattle.laws_blocks.specs.Blocks.{onBytes, throughBlocks}
+use Rattle.laws_states.specs.Buffer.{serial}
+use Rattle.laws_states.specs.Deal.{parallel, finished}
+use Rattle.laws_states.specs.Leaves.{rooted, keyedRow, leafStarts, rootStart}
+use Rattle.laws_states.proofs.Buffers.{Late}
+use Rattle.laws_blocks.proofs.Calls.{untruncated-through}
+use Rattle.laws_states.proofs.Deals.{parallel-late}
+use Rattle.laws_states.proofs.Images.{finished-image}
+use Rattle.laws_states.proofs.Serial.{serial-late}
+use Rattle.laws_states.proofs.Trees.{length-row, row-some, row-none, row-front, rooted-is-tree}
 
 module _ (f : Family) (some : 0 < f .bb) where
   open Family f using (bb)

@@ -11,12 +11,12 @@ use lib.ListN.{length, length-append, replicate}
 use lib.Seq.{take-append-seam}
 use Rattle.definitions.specs.Words.{pad}
 use Rattle.definitions.proofs.Lengths.{length-pad}
-use Rattle.laws.specs.Buffer.{Held, joined, closed}
-use Rattle.laws.specs.Buffer as buffer
-use Rattle.laws.proofs.Buffers.{Lawful, Late, Sound}
-use Rattle.laws.proofs.Buffers as buffers
-use Rattle.laws.proofs.Lifts.{Store}
-use Rattle.laws.proofs.TwoRows as rows
+use Rattle.laws_states.specs.Buffer.{Held, joined, closed}
+use Rattle.laws_states.specs.Buffer as buffer
+use Rattle.laws_states.proofs.Buffers.{Lawful, Late, Sound}
+use Rattle.laws_states.proofs.Buffers as buffers
+use Rattle.laws_states.proofs.Lifts.{Store}
+use Rattle.laws_states.proofs.TwoRows as rows
 use Rattle.numbers.specs.Numbers.{accepted, total-over}
 use Rattle.numbers.specs.Row.{Call, answers, digested, counted}
 use Rattle.numbers.proofs.Alike.{Alike, alike-answers}

@@ -6,12 +6,13 @@ use Prim.Native.Nat.{ℕ, _+_, _*_, _<_, _≤_}
 use native.Mathlib.Omega.{arith}
 use lib.ListN.{length, take, drop, length-append}
 use lib.Seq.{paste, take-all}
-use Rattle.laws.specs.Chain.{zeros, spare}
-use Rattle.laws.specs.Buffer as buffer
-use Rattle.laws.proofs.Buffers.{Sound}
-use Rattle.laws.proofs.Buffers as buffers
-use Rattle.laws.proofs.Steps as steps
-use Rattle.laws.proofs.TwoRows as two-rows
+use Rattle.laws_words.specs.Bytes.{zeros}
+use Rattle.laws_blocks.specs.Chain.{spare}
+use Rattle.laws_states.specs.Buffer as buffer
+use Rattle.laws_states.proofs.Buffers.{Sound}
+use Rattle.laws_states.proofs.Buffers as buffers
+use Rattle.laws_states.proofs.Steps as steps
+use Rattle.laws_states.proofs.TwoRows as two-rows
 use Rattle.members.specs.Member.{Member, pending, moved, pushed}
 use Rattle.members.proofs.Members.{Laws}
 

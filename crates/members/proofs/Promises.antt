@@ -5,8 +5,8 @@ use mathlib.Core.Bool.{true}
 use mathlib.Core.List.{List, [], foldl}
 use Prim.Native.Nat.{ℕ, _+_, _≤_}
 use lib.ListN.{length}
-use Rattle.laws.specs.Buffer.{joined}
-use Rattle.laws.proofs.Buffers.{Sound}
+use Rattle.laws_states.specs.Buffer.{joined}
+use Rattle.laws_states.proofs.Buffers.{Sound}
 use Rattle.numbers.specs.Numbers.{accepted, total-over}
 use Rattle.numbers.specs.Row.{Call, answers, digested, counted}
 use Rattle.members.specs.Member.{Member, Reads, inRange, reached, finalized, counts, updated, stateTaker, rowTaker, update-answer, hash-answer, count-answer, one-shot-answer, taker}

@@ -5,8 +5,8 @@ use mathlib.Core.List.{List, [], _∷_, _++_, foldl}
 use Prim.Native.Nat.{ℕ, _+_, _-_, _*_}
 use lib.Dec.{leb}
 use lib.ListN.{length}
-use Rattle.laws.specs.Buffer.{Machine, Held}
-use Rattle.laws.specs.Buffer as buffer
+use Rattle.laws_states.specs.Buffer.{Machine, Held}
+use Rattle.laws_states.specs.Buffer as buffer
 use Rattle.numbers.specs.Numbers.{accepted, total-over, bad-record}
 use Rattle.numbers.specs.Row.{Taker, Answer, digested, counted}
 use Rattle.members.specs.Tests.{Test, test, tested}

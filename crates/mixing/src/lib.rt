@@ -5,7 +5,7 @@ ghost use mathlib.Core.Path.{_≡_};
 ghost use Prim.Native.Nat.{_+_, _%_, _^_, _<_};
 ghost use Rattle.definitions.specs.Words.{rotr};
 ghost use Rattle.definitions.specs.Family.{BLAKE2b};
-ghost use Rattle.laws.specs.Halves.{mixed};
+ghost use Rattle.laws_words.specs.Halves.{mixed};
 ghost use Rattle.mixing.specs.Quads.{listed};
 
 // x >>> k.

@@ -9,7 +9,7 @@ use lib.Seq.{take-append-le, drop-append-le, drop-append-add, drop-at}
 use Rattle.definitions.specs.Words.{_⊕_, word, bytes, pad}
 use Rattle.definitions.specs.Family.{BLAKE2b}
 use Rattle.definitions.specs.Hash.{Parameters, parameterBlock, words, start}
-use Rattle.laws.proofs.Bytes.{word-bytes, pad-whole}
+use Rattle.laws_words.proofs.Bytes.{word-bytes, pad-whole}
 
 lengths-word : (a b c d x : ℕ) → x < 256 ^ 4 → a + b * 0x100 + c * 0x1_0000 + d * 0x100_0000 + x * 0x1_0000_0000 ≡ word (a ∷ b ∷ c ∷ d ∷ bytes 4 x)
 lengths-word a b c d x h = let e = word-bytes 4 x h in omega arith

@@ -9,8 +9,8 @@ use lib.ListN.{drop}
 use Rattle.definitions.specs.Family.{BLAKE2b}
 use Rattle.definitions.specs.Hash.{Parameters, start, calls, compress, stateBytes, untruncated}
 use Rattle.definitions.specs.Tree.{share}
-use Rattle.laws.specs.Blocks.{throughBlocks}
-use Rattle.laws.proofs.Calls.{untruncated-through, share-calls-through}
+use Rattle.laws_blocks.specs.Blocks.{throughBlocks}
+use Rattle.laws_blocks.proofs.Calls.{untruncated-through, share-calls-through}
 use Rattle.guts.specs.Guts.{paddedBlockbytes}
 use Rattle.guts.specs.declared.Stride.the-variants.{Serial, Parallel}
 

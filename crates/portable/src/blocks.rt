@@ -15,8 +15,8 @@ ghost use mathlib.Core.Bool.{_&&_};
 ghost use Prim.Native.Nat.{_+_, _*_, _^_, _<_};
 ghost use lib.ListN.{length};
 ghost use Rattle.definitions.specs.Family.{BLAKE2b};
-ghost use Rattle.laws.specs.Chain.{spare};
-ghost use Rattle.laws.specs.Blocks.{throughBlocks};
+ghost use Rattle.laws_blocks.specs.Chain.{spare};
+ghost use Rattle.laws_blocks.specs.Blocks.{throughBlocks};
 ghost use Rattle.guts.specs.Guts.{finalizes, isLastNode, paddedBlockbytes};
 
 // What a run of the loop hands back.

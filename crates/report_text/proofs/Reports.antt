@@ -10,11 +10,11 @@ use borrow.Author.Tests.{not-true, not-false, le-leb, lt-leb}
 use lib.Dec.{eqb}
 use lib.ListN.{length, take, drop}
 use lib.Seq.{paste, take-all, take-append-seam}
-use Rattle.laws.specs.Buffer.{over}
+use Rattle.laws_words.specs.Bytes.{over}
 use Rattle.numbers.specs.Numbers.{accepted, output-short, bad-record}
 use Rattle.hash.specs.Hash.{hashInRange, digestOf, hexOf, lengthAnswered, writtenAnswered}
 use Rattle.hash.specs.Hash as hashes
-use Rattle.blake2b.specs.State.{stateInRange, updated, finalized, counted, closedDigest}
+use Rattle.blake2b.specs.State.{stateInRange, updated, finalized, counted, closedDigest, bounds}
 use Rattle.hash.specs.declared.Hash.{Hash}
 use Rattle.hash.specs.declared.HashAnswer.{HashAnswer}
 use Rattle.hash.specs.declared.LengthAnswer.{LengthAnswer}
@@ -23,7 +23,6 @@ use Rattle.blake2b.specs.declared.state.StateAnswer.{StateAnswer}
 use Rattle.blake2b.specs.declared.state.CountAnswer.{CountAnswer}
 use Rattle.hash.proofs.Digests.{digest-length-bounds, hash-in-range, length-hex, length-digest, length-known, answer-fits, over-accepted}
 use Rattle.members.proofs.Ranges.{in-range}
-use Rattle.blake2b.specs.State.{bounds}
 use Rattle.blake2b.proofs.Sizes.{length-closed-digest}
 use Rattle.report_text.specs.Ascii.{ascii}
 use Rattle.report_text.specs.Lines.{decimal, line, lengthLines, fiveLines, unreadable, Appends}

@@ -5,8 +5,7 @@ ghost use mathlib.Core.Path.{_≡_};
 ghost use Prim.Native.Nat.{_+_, _≤_};
 ghost use lib.ListN.{length};
 ghost use lib.Seq.{paste};
-ghost use Rattle.report_text.specs.Lines.{line, Appends};
-ghost use Rattle.report_text.specs.Lines.{decimal as decimalOf};
+ghost use Rattle.report_text.specs.Lines.{line, Appends, decimal as decimalOf};
 
 pub(crate) fn put(out: &mut [u8], at: usize, text: &[u8]) -> usize
     requires { ⌜ at + length (now text) ≤ length (now out) ⌝ }

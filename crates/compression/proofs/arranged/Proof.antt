@@ -9,8 +9,8 @@ use denote.Ref.{now}
 use borrow.Author.Needs.{needs}
 use lib.ListN.{length, length-set}
 use Rattle.definitions.specs.Words.{_!_}
-use Rattle.laws.proofs.Lists.{set-more, by-places}
-use Rattle.laws.specs.Halves.{ordered}
+use Rattle.laws_words.proofs.Lists.{set-more, by-places}
+use Rattle.laws_words.specs.Halves.{ordered}
 use Rattle.compression.proofs.arranged.Statement.{statement}
 use Rattle.compression.proofs.arranged.Tie as tie
 

@@ -3,7 +3,7 @@
 use mathlib.Core.Path.{_≡_}
 use lib.ListN.{length}
 use Rattle.definitions.specs.Family.{BLAKE2b}
-use Rattle.laws.proofs.Compression.{columns-is}
+use Rattle.laws_words.proofs.Compression.{columns-is}
 use borrow.Author.Needs.{needs}
 use Rattle.compression.proofs.columns.Statement.{statement}
 use Rattle.compression.proofs.columns.Tie as tie

@@ -2,8 +2,8 @@
 -- Assumes nothing.
 use Rattle.definitions.specs.Family.{BLAKE2b}
 use Rattle.definitions.specs.Compress.{roundsTo}
-use Rattle.laws.specs.Halves.{initial}
-use Rattle.laws.proofs.Compression.{F-is}
+use Rattle.laws_words.specs.Halves.{initial}
+use Rattle.laws_words.proofs.Compression.{F-is}
 use mathlib.Core.Path.{_∙_}
 use denote.Ref.{now}
 use Rattle.definitions.specs.Hash.{words}

@@ -3,7 +3,7 @@
 use mathlib.Core.Path.{_≡_}
 use lib.ListN.{length}
 use Rattle.definitions.specs.Family.{BLAKE2b}
-use Rattle.laws.proofs.Compression.{diagonals-is}
+use Rattle.laws_words.proofs.Compression.{diagonals-is}
 use borrow.Author.Needs.{needs}
 use Rattle.compression.proofs.diagonals.Statement.{statement}
 use Rattle.compression.proofs.diagonals.Tie as tie

@@ -8,8 +8,8 @@ use native.Mathlib.Omega.{arith}
 use borrow.Author.Needs.{needs}
 use lib.ListN.{length, length-set}
 use Rattle.definitions.specs.Words.{_!_, _⊕_}
-use Rattle.laws.proofs.Lists.{set-more, by-places}
-use Rattle.laws.specs.Halves.{foldHalves}
+use Rattle.laws_words.proofs.Lists.{set-more, by-places}
+use Rattle.laws_words.specs.Halves.{foldHalves}
 use Rattle.compression.proofs.finish.Statement.{statement}
 use Rattle.compression.proofs.finish.Tie as tie
 

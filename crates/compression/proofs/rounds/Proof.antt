@@ -4,9 +4,9 @@ use mathlib.Core.Path.{refl}
 use denote.Ref.{now}
 use Rattle.definitions.specs.Family.{BLAKE2b}
 use Rattle.definitions.specs.Compress.{SIGMA, roundsTo}
-use Rattle.laws.specs.Halves.{times}
-use Rattle.laws.proofs.Compression.{step}
-use Rattle.laws.proofs.Schedule.{tally, ideal, order}
+use Rattle.laws_words.specs.Halves.{times}
+use Rattle.laws_words.proofs.Compression.{step}
+use Rattle.laws_words.proofs.Schedule.{tally, ideal, order}
 use borrow.Author.Needs.{needs}
 use Rattle.compression.proofs.rounds.Statement.{statement}
 use Rattle.compression.proofs.rounds.Tie as tie

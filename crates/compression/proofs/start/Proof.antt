@@ -3,8 +3,8 @@
 use mathlib.Core.Path.{_≡_, refl}
 use lib.ListN.{length}
 use Rattle.definitions.specs.Family.{BLAKE2b}
-use Rattle.laws.specs.Halves.{initial}
-use Rattle.laws.proofs.Lists.{by-front}
+use Rattle.laws_words.specs.Halves.{initial}
+use Rattle.laws_words.proofs.Lists.{by-front}
 use borrow.Author.Needs.{needs}
 use Rattle.compression.proofs.start.Statement.{statement}
 use Rattle.compression.proofs.start.Tie as tie

@@ -4,7 +4,7 @@ use mathlib.Core.Path.{sym}
 use lib.Seq.{length-take-le}
 use denote.Ref.{now}
 use borrow.Author.Needs.{needs}
-use Rattle.laws.proofs.Offsets.{block-short, block-whole}
+use Rattle.laws_blocks.proofs.Offsets.{block-short, block-whole}
 use Rattle.guts.proofs.final_block.Statement.{statement}
 use Rattle.guts.proofs.final_block.Tie as tie
 

@@ -3,7 +3,7 @@
 use mathlib.Core.Path.{_∙_}
 use denote.Ref.{now}
 use borrow.Author.Needs.{needs}
-use Rattle.laws.proofs.Offsets.{buffer-short, buffer-whole}
+use Rattle.laws_blocks.proofs.Offsets.{buffer-short, buffer-whole}
 use Rattle.guts.proofs.pad_final_block.Statement.{statement}
 use Rattle.guts.proofs.pad_final_block.Tie as tie
 

@@ -7,8 +7,8 @@ use borrow.Author.Needs.{needs}
 use lib.ListN.{length, take}
 use lib.Seq.{take-all}
 use Rattle.definitions.specs.Words.{pad}
-use Rattle.laws.specs.Chain.{zeros}
-use Rattle.laws.proofs.Bytes.{pad-more}
+use Rattle.laws_words.specs.Bytes.{zeros}
+use Rattle.laws_words.proofs.Bytes.{pad-more}
 use Rattle.guts.proofs.padded.Statement.{statement}
 use Rattle.guts.proofs.padded.Tie as tie
 

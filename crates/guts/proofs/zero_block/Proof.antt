@@ -1,7 +1,7 @@
 -- `guts::zero_block` meets its contract.
 -- Assumes nothing.
 use mathlib.Core.Path.{refl}
-use Rattle.laws.specs.Chain.{zeros}
+use Rattle.laws_words.specs.Bytes.{zeros}
 use Rattle.guts.proofs.zero_block.Statement.{statement}
 use Rattle.guts.proofs.zero_block.Tie as tie
 

@@ -8,7 +8,7 @@ use borrow.Author.Needs.{needs}
 use denote.Ref.{now}
 use lib.ListN.{length, take, length-set}
 use lib.Seq.{take-all}
-use Rattle.laws.specs.Buffer.{over}
+use Rattle.laws_words.specs.Bytes.{over}
 use Rattle.hash.proofs.Turns.{put-more}
 use Rattle.hash.proofs.put.Statement.{statement}
 use Rattle.hash.proofs.put.Tie as tie

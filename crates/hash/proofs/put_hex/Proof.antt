@@ -8,7 +8,7 @@ use borrow.Author.Needs.{needs}
 use denote.Ref.{now}
 use lib.ListN.{length, take, length-set}
 use lib.Seq.{take-all}
-use Rattle.laws.specs.Buffer.{over}
+use Rattle.laws_words.specs.Bytes.{over}
 use Rattle.hash.specs.Hash.{hexOf}
 use Rattle.hash.proofs.Turns.{hex-more}
 use Rattle.hash.proofs.put_hex.Statement.{statement}

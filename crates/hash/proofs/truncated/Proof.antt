@@ -7,8 +7,8 @@ use borrow.Author.Needs.{needs}
 use lib.ListN as list
 use lib.Seq.{take-all}
 use Rattle.definitions.specs.Words.{pad}
-use Rattle.laws.specs.Chain.{zeros}
-use Rattle.laws.proofs.Bytes.{pad-more, pad-whole}
+use Rattle.laws_words.specs.Bytes.{zeros}
+use Rattle.laws_words.proofs.Bytes.{pad-more, pad-whole}
 use Rattle.hash.proofs.truncated.Statement.{statement}
 use Rattle.hash.proofs.truncated.Tie as tie
 

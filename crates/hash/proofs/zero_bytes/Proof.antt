@@ -1,7 +1,7 @@
 -- `hash::zero_bytes` meets its contract.
 -- Assumes nothing.
 use mathlib.Core.Path.{refl}
-use Rattle.laws.specs.Chain.{zeros}
+use Rattle.laws_words.specs.Bytes.{zeros}
 use Rattle.hash.proofs.zero_bytes.Statement.{statement}
 use Rattle.hash.proofs.zero_bytes.Tie as tie
 

@@ -1,6 +1,6 @@
 -- `mixing::rotr64` meets its contract.
 -- Assumes nothing.
-use Rattle.laws.proofs.Rotate.{rot-is}
+use Rattle.laws_words.proofs.Rotate.{rot-is}
 use borrow.Author.Needs.{needs}
 use Rattle.mixing.proofs.rotr64.Statement.{statement}
 use Rattle.mixing.proofs.rotr64.Tie as tie

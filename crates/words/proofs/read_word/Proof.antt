@@ -7,7 +7,7 @@ use borrow.Author.Needs.{needs}
 use lib.Dec.{lit<}
 use lib.ListN.{length, take, drop}
 use Rattle.definitions.specs.Words.{word}
-use Rattle.laws.proofs.Bytes.{horner, horner-below, horner-fits}
+use Rattle.laws_words.proofs.Bytes.{horner, horner-below, horner-fits}
 use Rattle.words.proofs.read_word.Statement.{statement}
 use Rattle.words.proofs.read_word.Tie as tie
 

@@ -9,8 +9,8 @@ use borrow.Author.Needs.{needs}
 use lib.ListN.{length, length-set}
 use Rattle.definitions.specs.Words.{_!_, word, part}
 use Rattle.definitions.specs.Family.{BLAKE2b}
-use Rattle.laws.proofs.Bytes.{words-are}
-use Rattle.laws.proofs.Lists.{set-more}
+use Rattle.laws_words.proofs.Bytes.{words-are}
+use Rattle.laws_words.proofs.Lists.{set-more}
 use Rattle.words.proofs.read_words.Statement.{statement}
 use Rattle.words.proofs.read_words.Tie as tie
 

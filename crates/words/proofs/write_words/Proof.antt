@@ -11,8 +11,8 @@ use lib.ListN.{length, length-set}
 use lib.Seq.{ext-getD}
 use Rattle.definitions.specs.Words.{_!_, bytes}
 use Rattle.definitions.specs.Hash.{stateBytes}
-use Rattle.laws.proofs.Bytes.{flat-at, bytes-at, length-flat}
-use Rattle.laws.proofs.Lists.{set-more}
+use Rattle.laws_words.proofs.Bytes.{flat-at, bytes-at, length-flat}
+use Rattle.laws_words.proofs.Lists.{set-more}
 use Rattle.words.proofs.write_words.Statement.{statement}
 use Rattle.words.proofs.write_words.Tie as tie
 

@@ -6,9 +6,9 @@ use Prim.Native.Nat.{ℕ}
 use native.Mathlib.Omega.{arith}
 use borrow.Author.Needs.{needs}
 use Rattle.definitions.specs.Words.{_!_, pad}
-use Rattle.laws.proofs.Bytes.{pad-at}
+use Rattle.laws_words.proofs.Bytes.{pad-at}
 use Rattle.definitions.proofs.Lengths.{length-pad}
-use Rattle.laws.proofs.Lists.{by-places}
+use Rattle.laws_words.proofs.Lists.{by-places}
 use Rattle.blake2b.proofs.params.padded16.Statement.{statement}
 use Rattle.blake2b.proofs.params.padded16.Tie as tie
 

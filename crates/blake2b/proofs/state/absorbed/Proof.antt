@@ -7,10 +7,10 @@ use denote.Ref.{now}
 use lib.ListN.{length, drop, length-drop}
 use lib.Seq.{length-take-le}
 use Rattle.definitions.specs.Family.{BLAKE2b}
-use Rattle.laws.specs.Chain.{blockAt, absorb}
-use Rattle.laws.specs.Blocks.{onBytes, throughBlocks}
-use Rattle.laws.proofs.Chains.{through-whole}
-use Rattle.laws.proofs.Rows.{spare-is}
+use Rattle.laws_blocks.specs.Chain.{blockAt, absorb}
+use Rattle.laws_blocks.specs.Blocks.{onBytes, throughBlocks}
+use Rattle.laws_blocks.proofs.Chains.{through-whole}
+use Rattle.laws_blocks.proofs.Rows.{spare-is}
 use mathlib.Core.Bool.{false}
 use mathlib.Core.List.{List}
 use native.Mathlib.Nat.{not-suc-le-zero}

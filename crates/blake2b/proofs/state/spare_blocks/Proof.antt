@@ -1,7 +1,7 @@
 -- `blake2b::state::spare_blocks` meets its contract.
 -- Assumes nothing.
 use native.Mathlib.Omega.{arith}
-use Rattle.laws.specs.Chain.{spare}
+use Rattle.laws_blocks.specs.Chain.{spare}
 use Rattle.blake2b.proofs.state.spare_blocks.Statement.{statement}
 use Rattle.blake2b.proofs.state.spare_blocks.Tie as tie
 

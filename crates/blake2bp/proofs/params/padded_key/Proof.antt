@@ -6,7 +6,7 @@ use Prim.Native.Nat.{ℕ}
 use denote.Ref.{now}
 use lib.ListN.{length}
 use lib.Seq.{paste}
-use Rattle.laws.proofs.Pastes.{paste-zeros}
+use Rattle.laws_states.proofs.Pastes.{paste-zeros}
 use borrow.Author.Needs.{needs}
 use Rattle.blake2bp.proofs.params.padded_key.Statement.{statement}
 use Rattle.blake2bp.proofs.params.padded_key.Tie as tie

@@ -1,7 +1,7 @@
 -- `blake2bp::params::zero_key` meets its contract.
 -- Assumes nothing.
 use mathlib.Core.Path.{refl}
-use Rattle.laws.specs.Chain.{zeros}
+use Rattle.laws_words.specs.Bytes.{zeros}
 use Rattle.blake2bp.proofs.params.zero_key.Statement.{statement}
 use Rattle.blake2bp.proofs.params.zero_key.Tie as tie
 

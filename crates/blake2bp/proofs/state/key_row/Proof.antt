@@ -6,9 +6,9 @@ use native.Mathlib.Omega.{arith}
 use borrow.Author.Needs.{needs}
 use lib.ListN.{length}
 use Rattle.definitions.specs.Words.{pad}
-use Rattle.laws.specs.Leaves.{rowOf}
-use Rattle.laws.proofs.Pastes.{pad-none, row-more}
-use Rattle.laws.proofs.Trees.{length-row}
+use Rattle.laws_states.specs.Leaves.{rowOf}
+use Rattle.laws_states.proofs.Pastes.{pad-none, row-more}
+use Rattle.laws_states.proofs.Trees.{length-row}
 use Rattle.leaves.proofs.Turns.{filled-turn}
 use Rattle.blake2bp.proofs.state.key_row.Statement.{statement}
 use Rattle.blake2bp.proofs.state.key_row.Tie as tie

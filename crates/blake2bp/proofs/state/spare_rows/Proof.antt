@@ -2,7 +2,7 @@
 -- Assumes nothing.
 use native.Mathlib.Omega.{arith}
 use borrow.Author.Needs.{needs}
-use Rattle.laws.specs.Chain.{spare}
+use Rattle.laws_blocks.specs.Chain.{spare}
 use Rattle.blake2bp.proofs.state.spare_rows.Statement.{statement}
 use Rattle.blake2bp.proofs.state.spare_rows.Tie as tie
 

@@ -1,7 +1,7 @@
 -- `blake2bp::state::zero_buffer` meets its contract.
 -- Assumes nothing.
 use mathlib.Core.Path.{refl}
-use Rattle.laws.specs.Chain.{zeros}
+use Rattle.laws_words.specs.Bytes.{zeros}
 use Rattle.blake2bp.proofs.state.zero_buffer.Statement.{statement}
 use Rattle.blake2bp.proofs.state.zero_buffer.Tie as tie
 

@@ -10,7 +10,7 @@ use lib.ListN.{length, take}
 use Rattle.definitions.specs.Words.{pad}
 use Rattle.definitions.specs.Family.{BLAKE2b}
 use Rattle.definitions.specs.Hash.{stateBytes}
-use Rattle.laws.proofs.Bytes.{length-flat}
+use Rattle.laws_words.proofs.Bytes.{length-flat}
 use Rattle.hash.specs.Hash.{isDigestLength}
 use Rattle.hash.proofs.Digests.{digest-length-bounds, made, not-made}
 use Rattle.hash.proofs.Hash.from_words.Statement.{statement}

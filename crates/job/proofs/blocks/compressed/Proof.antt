@@ -4,7 +4,7 @@ use mathlib.Core.Path.{_∙_}
 use mathlib.Core.Bool.{_&&_}
 use denote.Ref.{now}
 use Rattle.definitions.specs.Family.{BLAKE2b}
-use Rattle.laws.specs.Blocks.{throughBlocks}
+use Rattle.laws_blocks.specs.Blocks.{throughBlocks}
 use borrow.Author.Needs.{needs}
 use Rattle.job.proofs.blocks.compressed.Statement.{statement}
 use Rattle.job.proofs.blocks.compressed.Tie as tie

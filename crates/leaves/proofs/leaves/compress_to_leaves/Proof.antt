@@ -3,7 +3,7 @@
 use mathlib.Core.Path.{_∙_}
 use native.Mathlib.Omega.{arith}
 use borrow.Author.Needs.{needs}
-use Rattle.laws.proofs.Deals.{rows-dealt}
+use Rattle.laws_states.proofs.Deals.{rows-dealt}
 use Rattle.leaves.specs.Leaves.{onLeaf}
 use Rattle.leaves.proofs.leaves.compress_to_leaves.Statement.{statement}
 use Rattle.leaves.proofs.leaves.compress_to_leaves.Tie as tie

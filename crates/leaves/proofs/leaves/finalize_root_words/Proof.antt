@@ -6,8 +6,8 @@ use mathlib.Core.List.{List}
 use Prim.Native.Nat.{ℕ}
 use Rattle.definitions.specs.Family.{BLAKE2b}
 use Rattle.definitions.specs.Hash.{stateBytes}
-use Rattle.laws.specs.Blocks.{throughBlocks}
-use Rattle.laws.specs.Leaves.{rooted}
+use Rattle.laws_blocks.specs.Blocks.{throughBlocks}
+use Rattle.laws_states.specs.Leaves.{rooted}
 use Rattle.hash.specs.Hash.{madeFrom}
 use Rattle.leaves.proofs.Turns.{flat-words}
 use borrow.Author.Needs.{needs}

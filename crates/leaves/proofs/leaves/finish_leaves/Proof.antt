@@ -1,7 +1,7 @@
 -- `leaves::leaves::finish_leaves` meets its contract: a finalizing run of every leaf is the end of all.
 -- Assumes nothing.
 use borrow.Author.Needs.{needs}
-use Rattle.laws.specs.Deal.{finished}
+use Rattle.laws_states.specs.Deal.{finished}
 use Rattle.leaves.proofs.leaves.finish_leaves.Statement.{statement}
 use Rattle.leaves.proofs.leaves.finish_leaves.Tie as tie
 

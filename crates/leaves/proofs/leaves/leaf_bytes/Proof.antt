@@ -8,8 +8,8 @@ use borrow.Author.Needs.{needs}
 use lib.ListN.{length, take, length-append, length-take}
 use lib.Seq.{take-all}
 use Rattle.definitions.specs.Words.{pad}
-use Rattle.laws.proofs.Bytes.{pad-whole}
-use Rattle.laws.proofs.Pastes.{pad-none, flat-more}
+use Rattle.laws_words.proofs.Bytes.{pad-whole}
+use Rattle.laws_states.proofs.Pastes.{pad-none, flat-more}
 use Rattle.leaves.specs.Leaves.{stateOf}
 use Rattle.leaves.proofs.Turns.{filled-turn}
 use Rattle.leaves.proofs.leaves.leaf_bytes.Statement.{statement}

@@ -5,8 +5,8 @@ use Prim.Native.Nat.{_≤_, _-_}
 use native.Mathlib.Omega.{arith}
 use borrow.Author.Needs.{needs}
 use lib.ListN.{length, length-drop}
-use Rattle.laws.specs.Deal.{each, leafThrough}
-use Rattle.laws.proofs.Deals.{leaf-turn}
+use Rattle.laws_states.specs.Deal.{each, leafThrough}
+use Rattle.laws_states.proofs.Deals.{leaf-turn}
 use Rattle.guts.specs.Guts.{finalizes}
 use Rattle.leaves.specs.Leaves.{onLeaf}
 use Rattle.leaves.proofs.leaves.run_leaves.Statement.{statement}

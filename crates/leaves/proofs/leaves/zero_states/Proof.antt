@@ -1,7 +1,7 @@
 -- `leaves::leaves::zero_states` meets its contract.
 -- Assumes nothing.
 use mathlib.Core.Path.{refl}
-use Rattle.laws.specs.Chain.{zeros}
+use Rattle.laws_words.specs.Bytes.{zeros}
 use Rattle.leaves.proofs.leaves.zero_states.Statement.{statement}
 use Rattle.leaves.proofs.leaves.zero_states.Tie as tie
 

@@ -5,7 +5,7 @@ use Prim.Native.Nat.{_≤_, _-_}
 use native.Mathlib.Omega.{arith}
 use borrow.Author.Needs.{needs}
 use lib.ListN.{replicate}
-use Rattle.laws.specs.Deal.{each}
+use Rattle.laws_states.specs.Deal.{each}
 use Rattle.leaves.specs.declared.leaves.Leaf.{Leaf}
 use Rattle.leaves.proofs.Turns.{leaf-start, start-turn, starts-made}
 use Rattle.leaves.proofs.starts.leaf_words.Statement.{statement}

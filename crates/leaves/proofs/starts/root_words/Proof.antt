@@ -1,6 +1,6 @@
 -- `leaves::starts::root_words` meets its contract.
 -- Assumes nothing.
-use Rattle.laws.specs.Leaves.{rootStart}
+use Rattle.laws_states.specs.Leaves.{rootStart}
 use borrow.Author.Needs.{needs}
 use Rattle.leaves.proofs.starts.root_words.Statement.{statement}
 use Rattle.leaves.proofs.starts.root_words.Tie as tie

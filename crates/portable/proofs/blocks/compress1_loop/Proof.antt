@@ -13,17 +13,17 @@ use lib.ListN.{length, drop}
 use Rattle.definitions.specs.Words.{pad}
 use Rattle.definitions.specs.Family.{BLAKE2b}
 use Rattle.definitions.specs.Hash.{words}
-use Rattle.laws.specs.Chain.{spare, blockAt, absorb}
-use Rattle.laws.specs.Offsets.{paddedBuffer, finalBlock}
-use Rattle.laws.specs.Blocks.{onBytes, throughBlocks}
+use Rattle.laws_blocks.specs.Chain.{spare, blockAt, absorb}
+use Rattle.laws_blocks.specs.Offsets.{paddedBuffer, finalBlock}
+use Rattle.laws_blocks.specs.Blocks.{onBytes, throughBlocks}
 use Rattle.definitions.proofs.Lengths.{length-pad}
-use Rattle.laws.proofs.Bytes.{length-zeros}
-use Rattle.laws.proofs.Chains.{absorb-step, through-step}
+use Rattle.laws_words.proofs.Bytes.{length-zeros}
+use Rattle.laws_blocks.proofs.Chains.{absorb-step, through-step}
 use Rattle.guts.specs.Guts.{paddedBlockbytes, finalFacts, finalizes, isLastNode}
 use Rattle.guts.specs.declared.Stride.{Stride}
 use Rattle.guts.specs.declared.FinalFacts.{FinalFacts}
-use Rattle.laws.proofs.Calls.{compressed-on-bytes}
-use Rattle.laws.proofs.Offsets.{last-is, last-not, row-more, block-at, length-block, length-buffer, short-block, whole-block, count-fits}
+use Rattle.laws_blocks.proofs.Calls.{compressed-on-bytes}
+use Rattle.laws_blocks.proofs.Offsets.{last-is, last-not, row-more, block-at, length-block, length-buffer, short-block, whole-block, count-fits}
 use Rattle.guts.proofs.Facts.{row-wide}
 use Rattle.portable.proofs.blocks.compress1_loop.Statement.{statement}
 use Rattle.portable.proofs.blocks.compress1_loop.Tie as tie

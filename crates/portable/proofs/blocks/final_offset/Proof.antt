@@ -5,7 +5,7 @@ use Prim.Native.Nat.{ℕ, _+_, _-_, _*_, _/_, _%_}
 use native.Mathlib.Nat.{div-add-mod', zero-div, mul-zero, mul-comm, mod-le}
 use native.Mathlib.Omega.{arith}
 use borrow.Author.Needs.{needs}
-use Rattle.laws.specs.Chain.{spare}
+use Rattle.laws_blocks.specs.Chain.{spare}
 use Rattle.portable.proofs.blocks.final_offset.Statement.{statement}
 use Rattle.portable.proofs.blocks.final_offset.Tie as tie
 

@@ -4,7 +4,7 @@ use mathlib.Core.Path.{ap}
 use mathlib.Core.Bool.{false}
 use mathlib.Core.List.{List}
 use Prim.Native.Nat.{ℕ}
-use Rattle.laws.specs.Chain.{zeros}
+use Rattle.laws_words.specs.Bytes.{zeros}
 use Rattle.blake2b.specs.Params.{defaults, withFields}
 use borrow.Author.Needs.{needs}
 use Rattle.blake2b.proofs.params.Params.new.Statement.{statement}

@@ -6,13 +6,13 @@ use mathlib.Core.List.{List}
 use Prim.Native.Nat.{ℕ}
 use native.Mathlib.Omega.{arith}
 use lib.ListN.{length, take, length-take}
-use Rattle.laws.specs.Buffer.{pending}
+use Rattle.laws_states.specs.Buffer.{pending}
 use Rattle.hash.proofs.Digests.{digest-length-is, made-hash}
 use Rattle.members.proofs.Ranges.{Kept, kept}
 use Rattle.members.proofs.Picks.{passed, refused}
 use Rattle.definitions.specs.Family.{BLAKE2b}
 use Rattle.definitions.specs.Hash.{stateBytes}
-use Rattle.laws.specs.Blocks.{throughBlocks}
+use Rattle.laws_blocks.specs.Blocks.{throughBlocks}
 use Rattle.guts.specs.Guts.{isLastNode}
 use Rattle.blake2b.specs.State.{reads, finalized, member}
 use Rattle.blake2b.specs.State as state

@@ -5,9 +5,9 @@ use Prim.Native.Nat.{ℕ, _+_, _-_, _^_, _<_, _≤_}
 use native.Mathlib.Omega.{arith}
 use denote.Ref.{now}
 use lib.ListN.{length, drop, length-take, length-drop}
-use Rattle.laws.specs.Chain.{spare}
-use Rattle.laws.proofs.Buffers.{Sound}
-use Rattle.laws.proofs.Lifts.{filled-held, filled-count, gone-held, gone-count, spill-is}
+use Rattle.laws_blocks.specs.Chain.{spare}
+use Rattle.laws_states.proofs.Buffers.{Sound}
+use Rattle.laws_states.proofs.Lifts.{filled-held, filled-count, gone-held, gone-count, spill-is}
 use Rattle.blake2b.specs.State.{machine, core}
 use Rattle.blake2b.proofs.States.{store, lawful}
 use borrow.Author.Needs.{needs}

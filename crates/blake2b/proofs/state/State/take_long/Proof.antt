@@ -4,8 +4,8 @@ use mathlib.Core.Path.{_≡_, refl, ap, _∙_}
 use Prim.Native.Nat.{_+_, _*_, _≤_}
 use native.Mathlib.Omega.{arith}
 use lib.ListN.{length, take, length-take, length-drop}
-use Rattle.laws.specs.Chain.{spare}
-use Rattle.laws.proofs.Lifts.{held-is, long-made}
+use Rattle.laws_blocks.specs.Chain.{spare}
+use Rattle.laws_states.proofs.Lifts.{held-is, long-made}
 use Rattle.blake2b.specs.State.{machine}
 use Rattle.blake2b.proofs.States.{store, lawful}
 use borrow.Author.Needs.{needs}

@@ -6,8 +6,8 @@ use native.Mathlib.Omega.{arith}
 use borrow.Author.Tests.{le-leb, lt-leb}
 use lib.ListN.{length}
 use Rattle.numbers.specs.Numbers.{accepted, limit}
-use Rattle.laws.specs.Chain.{spare}
-use Rattle.laws.proofs.Rows.{spare-none}
+use Rattle.laws_blocks.specs.Chain.{spare}
+use Rattle.laws_blocks.proofs.Rows.{spare-none}
 use Rattle.members.proofs.Ranges.{Kept, kept}
 use Rattle.members.proofs.Picks.{passed, refused, holds, fails}
 use Rattle.blake2b.specs.State.{total, pushed, reads, updated, member}

@@ -5,12 +5,12 @@ use mathlib.Core.List.{List, map}
 use native.Mathlib.Nat.{sub-zero}
 use native.Mathlib.Omega.{arith}
 use lib.ListN.{length, take, length-take}
-use Rattle.laws.specs.Buffer.{pending}
+use Rattle.laws_states.specs.Buffer.{pending}
 use Rattle.hash.proofs.Digests.{digest-length-is, made-hash}
 use Rattle.members.proofs.Ranges.{Kept, kept}
 use Rattle.members.proofs.Picks.{passed, refused}
 use Rattle.definitions.specs.Family.{BLAKE2b}
-use Rattle.laws.specs.Leaves.{rooted}
+use Rattle.laws_states.specs.Leaves.{rooted}
 use Rattle.leaves.specs.Leaves.{wordsOf}
 use Rattle.leaves.specs.declared.leaves.Leaf.{Leaf}
 use Rattle.blake2bp.specs.State.{reads, finalized, member}

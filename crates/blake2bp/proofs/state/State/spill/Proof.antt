@@ -7,10 +7,10 @@ use native.Mathlib.Nat.{sub-zero}
 use native.Mathlib.Omega.{arith}
 use denote.Ref.{now}
 use lib.ListN.{length, take, drop, length-drop}
-use Rattle.laws.specs.Chain.{spare}
-use Rattle.laws.proofs.Buffers.{Sound}
-use Rattle.laws.proofs.TwoRows.{spare-both, spare-half}
-use Rattle.laws.proofs.Lifts.{filled-held, filled-count, gone-held, gone-count, spill-is}
+use Rattle.laws_blocks.specs.Chain.{spare}
+use Rattle.laws_states.proofs.Buffers.{Sound}
+use Rattle.laws_states.proofs.TwoRows.{spare-both, spare-half}
+use Rattle.laws_states.proofs.Lifts.{filled-held, filled-count, gone-held, gone-count, spill-is}
 use Rattle.blake2bp.specs.State.{machine, core, pending, moved}
 use Rattle.blake2bp.proofs.States.{store, lawful}
 use borrow.Author.Needs.{needs}

@@ -5,8 +5,8 @@ use Prim.Native.Nat.{_+_, _*_, _≤_}
 use native.Mathlib.Nat.{sub-zero}
 use native.Mathlib.Omega.{arith}
 use lib.ListN.{length, take, length-take, length-drop}
-use Rattle.laws.specs.Chain.{spare}
-use Rattle.laws.proofs.Lifts.{held-is, long-made}
+use Rattle.laws_blocks.specs.Chain.{spare}
+use Rattle.laws_states.proofs.Lifts.{held-is, long-made}
 use Rattle.blake2bp.specs.State.{machine, moved}
 use Rattle.blake2bp.proofs.States.{store, lawful}
 use borrow.Author.Needs.{needs}

@@ -3,10 +3,9 @@
 use mathlib.Core.Path.{ap}
 use mathlib.Core.List.{List}
 use Prim.Native.Nat.{ℕ}
-use Rattle.laws.specs.Chain.{zeros}
-use Rattle.blake2bp.specs.State.{zeroState}
+use Rattle.laws_words.specs.Bytes.{zeros}
+use Rattle.blake2bp.specs.State.{zeroState, member}
 use Rattle.members.proofs.Moves.{parts}
-use Rattle.blake2bp.specs.State.{member}
 use Rattle.blake2bp.proofs.States.{laws}
 use borrow.Author.Needs.{needs}
 use Rattle.blake2bp.proofs.state.State.zero.Statement.{statement}

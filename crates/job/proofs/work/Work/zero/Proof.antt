@@ -1,7 +1,7 @@
 -- `job::work::Work::zero` meets its contract.
 -- Assumes nothing.
 use mathlib.Core.Path.{refl}
-use Rattle.laws.specs.Chain.{zeros}
+use Rattle.laws_words.specs.Bytes.{zeros}
 use Rattle.job.proofs.work.Work.zero.Statement.{statement}
 use Rattle.job.proofs.work.Work.zero.Tie as tie
 

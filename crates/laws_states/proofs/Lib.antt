@@ -1,0 +1,10 @@
+pub mod Buffers
+pub mod Serial
+pub mod Steps
+pub mod Lifts
+pub mod Tails
+pub mod Pastes
+pub mod TwoRows
+pub mod Deals
+pub mod Images
+pub mod Trees

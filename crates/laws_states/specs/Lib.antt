@@ -1,0 +1,3 @@
+pub mod Buffer
+pub mod Deal
+pub mod Leaves

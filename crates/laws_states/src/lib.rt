@@ -1,0 +1,2 @@
+// The laws of states, buffering and trees: it is in specs/ and proofs/.
+// This crate has no running code.

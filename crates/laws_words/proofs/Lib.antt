@@ -1,0 +1,5 @@
+pub mod Lists
+pub mod Rotate
+pub mod Bytes
+pub mod Schedule
+pub mod Compression

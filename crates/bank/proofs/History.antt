@@ -15,7 +15,7 @@ use lib.ListN.{length, replicate, length-append}
 use Rattle.definitions.specs.Family.{BLAKE2b}
 use Rattle.definitions.specs.Hash.{keyed}
 use Rattle.numbers.specs.Numbers.{limit}
-use Rattle.numbers.specs.Row as row
+use Rattle.members.specs.Row as row
 use Rattle.blake2b.specs.Params.{defaults, inRange, front, keyOf, Clean, Setting, afterSetting}
 use Rattle.blake2b.specs.State.{pushed, fresh}
 use Rattle.blake2b.specs.State as state

@@ -13,7 +13,7 @@ use Rattle.laws_states.specs.Buffer as buffer
 use Rattle.laws_states.proofs.Buffers.{Sound}
 use Rattle.laws_states.proofs.Buffers as buffers
 use Rattle.members.proofs.Closings.{one-digest}
-use Rattle.members.proofs.Members.{Begun}
+use Rattle.members.proofs.Laws.{Begun}
 use Rattle.hash.specs.Hash.{isDigestLength}
 use Rattle.blake2b.specs.Params.{inRange, asked, front}
 use Rattle.blake2b.specs.State.{core, machine, pushed, total, fresh, member}

@@ -17,12 +17,12 @@ use Rattle.laws_states.proofs.Buffers.{Lawful}
 use Rattle.laws_states.proofs.Lifts.{Store}
 use Rattle.laws_states.proofs.Serial.{serial-lawful}
 use Rattle.numbers.specs.Numbers.{accepted}
-use Rattle.numbers.specs.Row.{digested}
-use Rattle.members.proofs.Members.{Laws}
+use Rattle.members.specs.Row.{digested}
+use Rattle.members.proofs.Laws.{Laws}
 use Rattle.members.proofs.Promises.{Faithful}
 use Rattle.members.proofs.Closings.{one-late}
 use Rattle.hash.proofs.Digests.{digest-of-hash}
-use Rattle.members.proofs.Members as members
+use Rattle.members.proofs.Laws as members
 use Rattle.guts.specs.Guts.{isLastNode}
 use Rattle.blake2b.specs.Params.{asked, front}
 use Rattle.blake2b.specs.State.{machine, fresh, lastNodeOf, reads, member}

@@ -10,7 +10,7 @@ use Rattle.definitions.specs.Words.{pad}
 use Rattle.definitions.specs.Hash.{Parameters}
 use Rattle.laws_words.specs.Bytes.{zeros}
 use Rattle.numbers.specs.Numbers.{accepted, digest-length, key-length, salt-length, personal-length, inner-length, bad-record}
-use Rattle.members.specs.Tests.{Test, test, tested}
+use Rattle.numbers.specs.Tests.{Test, test, tested}
 use Rattle.hash.specs.Hash.{isDigestLength}
 use Rattle.blake2b.specs.declared.params.Params.{Params}
 use Rattle.blake2b.specs.declared.params.ParamsAnswer.{ParamsAnswer}

@@ -12,8 +12,8 @@ use Rattle.laws_words.specs.Bytes.{zeros}
 use Rattle.laws_blocks.specs.Blocks.{onBytes, throughBlocks}
 use Rattle.laws_states.specs.Buffer.{Machine, Held, serial}
 use Rattle.numbers.specs.Numbers.{accepted, bad-record, limit}
-use Rattle.numbers.specs.Row.{digested}
-use Rattle.numbers.specs.Row as row
+use Rattle.members.specs.Row.{digested}
+use Rattle.members.specs.Row as row
 use Rattle.members.specs.Member.{Bounds, Member, Reads}
 use Rattle.members.specs.Member as calls
 use Rattle.guts.specs.declared.LastNode.{LastNode}

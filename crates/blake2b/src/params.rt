@@ -22,7 +22,7 @@ ghost use Rattle.definitions.specs.Family.{BLAKE2b};
 ghost use Rattle.definitions.specs.Hash.{start};
 ghost use Rattle.numbers.specs.Numbers.{accepted, digest-length, key-length, salt-length, personal-length, inner-length};
 ghost use mathlib.Core.List.{[], _∷_};
-ghost use Rattle.members.specs.Tests.{test};
+ghost use Rattle.numbers.specs.Tests.{test};
 ghost use Rattle.hash.specs.Hash.{isDigestLength};
 ghost use Rattle.blake2b.specs.Params.{defaults, inRange, asked, answered, withNumber, withKey, withSalt, withPersonal, withLastNode, hash-length-at, fanout-at, max-depth-at, max-leaf-length-at, node-offset-at, node-depth-at, inner-hash-length-at};
 

@@ -10,7 +10,7 @@ use Rattle.laws_states.specs.Buffer.{joined}
 use Rattle.laws_states.proofs.Buffers.{Sound}
 use Rattle.numbers.specs.Numbers.{accepted, limit}
 use Rattle.members.specs.Member.{reached}
-use Rattle.members.proofs.Members as members
+use Rattle.members.proofs.Cuts as cuts
 use Rattle.members.proofs.Promises as promises
 use Rattle.hash.specs.Hash.{hashOf}
 use Rattle.blake2bp.specs.State.{core, machine, pending, stateInRange, keyBytes, fresh, reads, updated, finalized, counted, digest, member}
@@ -31,7 +31,7 @@ empty-changes-nothing = promises.empty-changes-nothing member laws reads faithfu
 module _ (p : Params) (good : Good p) (ps : List (List ℕ)) where
   -- behind the bytes that wait, the buffer is zero
   pub zeros-behind : reached member p ps .buf ≡ pad 1024 (pending (reached member p ps))
-  zeros-behind = members.zeros-behind member laws p (begun p good) ps
+  zeros-behind = cuts.zeros-behind member laws p (begun p good) ps
 
   module _ (within : keyBytes p + length (joined ps) ≤ limit) where
     -- in any cuts: once every piece came by an update, the digest is the paper's tree digest of the joined bytes

@@ -5,7 +5,7 @@ use mathlib.Core.List.{List, []}
 use Prim.Native.Nat.{_+_}
 use lib.Dec.{leb}
 use lib.ListN.{length}
-use Rattle.numbers.specs.Row.{Call, answers, row}
+use Rattle.members.specs.Row.{Call, answers, row}
 use Rattle.members.specs.Member.{keyRow}
 use Rattle.members.proofs.Promises as promises
 use Rattle.blake2bp.specs.Params.{keyOf}

@@ -20,7 +20,8 @@ use Rattle.blake2bp.proofs.Cleaned.{good-defaults}
 use Rattle.blake2bp.proofs.Pieces.{front-plain, begun}
 use Rattle.blake2bp.proofs.States.{lawful, laws}
 use Rattle.members.specs.Member.{totalOf, rangeOf}
-use Rattle.members.proofs.Members.{sound-fresh, updated-pushed}
+use Rattle.members.proofs.Cuts.{sound-fresh}
+use Rattle.members.proofs.Pieces.{updated-pushed}
 use Rattle.members.proofs.Ranges.{ranged}
 
 -- a state of 64-byte digests without a key that buffers so many bytes, at this leaf count

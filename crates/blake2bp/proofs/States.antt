@@ -8,13 +8,13 @@ use Rattle.laws_states.proofs.Buffers.{Lawful}
 use Rattle.laws_states.proofs.Lifts.{Store}
 use Rattle.laws_states.proofs.Deals.{parallel-lawful}
 use Rattle.numbers.specs.Numbers.{accepted}
-use Rattle.numbers.specs.Row.{digested}
-use Rattle.members.proofs.Members.{Laws}
+use Rattle.members.specs.Row.{digested}
+use Rattle.members.proofs.Laws.{Laws}
 use Rattle.members.proofs.Promises.{Faithful}
 use Rattle.members.proofs.Closings.{tree-late}
 use Rattle.leaves.proofs.Turns.{words-on-leaf}
 use Rattle.hash.proofs.Digests.{digest-of-hash}
-use Rattle.members.proofs.Members as members
+use Rattle.members.proofs.Laws as members
 use Rattle.leaves.specs.Leaves.{wordsOf, onLeaf}
 use Rattle.blake2bp.specs.State.{machine, reads, member}
 use Rattle.leaves.specs.declared.leaves.Leaf.{Leaf}

@@ -5,7 +5,7 @@ use Prim.Native.Nat.{ℕ, _+_}
 use lib.Dec.{leb}
 use lib.ListN.{length}
 use Rattle.definitions.specs.Tree.{BLAKE2bp}
-use Rattle.numbers.specs.Row.{Taker, digested, counted, row}
+use Rattle.members.specs.Row.{Taker, digested, counted, row}
 use Rattle.hash.specs.Hash.{digestOf}
 use Rattle.members.specs.Member.{keyRow}
 use Rattle.blake2bp.specs.State.{bounds, updated, finalized}

@@ -13,8 +13,8 @@ use Rattle.laws_states.specs.Buffer.{Machine, Held}
 use Rattle.laws_states.specs.Deal.{parallel, finished}
 use Rattle.laws_states.specs.Leaves.{rooted, keyedRow, leafStarts, rootStart}
 use Rattle.numbers.specs.Numbers.{accepted, bad-record, limit}
-use Rattle.numbers.specs.Row.{digested}
-use Rattle.numbers.specs.Row as row
+use Rattle.members.specs.Row.{digested}
+use Rattle.members.specs.Row as row
 use Rattle.members.specs.Member.{Bounds, Member, Reads, keyRow}
 use Rattle.members.specs.Member as calls
 use Rattle.hash.specs.Hash.{hashOf, digestOf, noHash}

@@ -14,7 +14,7 @@ ghost use lib.ListN.{length};
 ghost use Rattle.definitions.specs.Words.{pad};
 ghost use Rattle.laws_words.specs.Bytes.{zeros};
 ghost use Rattle.numbers.specs.Numbers.{digest-length, key-length};
-ghost use Rattle.members.specs.Tests.{test};
+ghost use Rattle.numbers.specs.Tests.{test};
 ghost use Rattle.hash.specs.Hash.{isDigestLength};
 ghost use Rattle.blake2bp.specs.Params.{defaults, inRange, answered, withHashLength, withKey};
 

@@ -1,6 +1,10 @@
-pub mod Picks
+pub mod Alike
 pub mod Ranges
-pub mod Members
+pub mod Laws
+pub mod Pieces
+pub mod Cuts
+pub mod History
+pub mod OneShot
 pub mod Moves
 pub mod Promises
 pub mod Closings

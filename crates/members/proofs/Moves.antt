@@ -14,7 +14,7 @@ use Rattle.laws_states.proofs.Buffers as buffers
 use Rattle.laws_states.proofs.Steps as steps
 use Rattle.laws_states.proofs.TwoRows as two-rows
 use Rattle.members.specs.Member.{Member, pending, moved, pushed}
-use Rattle.members.proofs.Members.{Laws}
+use Rattle.members.proofs.Laws.{Laws}
 
 module _ {P S L : Type 0} (m : Member P S L) (laws : Laws m) (s : S) where
   open Member m using (machine, core, holding)

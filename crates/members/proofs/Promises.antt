@@ -1,17 +1,21 @@
--- What every crate promises of its calls, in its own records.
+-- What every crate promises of its calls, in its own records: the members' theorems, read through them.
 -- Assumes nothing.
 use mathlib.Core.Path.{_≡_, sym, ap, _∙_}
 use mathlib.Core.Bool.{true}
 use mathlib.Core.List.{List, [], foldl}
-use Prim.Native.Nat.{ℕ, _+_, _≤_}
+use Prim.Native.Nat.{ℕ, _+_, _-_, _≤_}
 use lib.ListN.{length}
 use Rattle.laws_states.specs.Buffer.{joined}
 use Rattle.laws_states.proofs.Buffers.{Sound}
 use Rattle.numbers.specs.Numbers.{accepted, total-over}
-use Rattle.numbers.specs.Row.{Call, answers, digested, counted}
-use Rattle.members.specs.Member.{Member, Reads, inRange, reached, finalized, counts, updated, stateTaker, rowTaker, update-answer, hash-answer, count-answer, one-shot-answer, taker}
-use Rattle.members.proofs.Members.{Laws, Begun, updated-ap, finalized-ap, counts-ap}
-use Rattle.members.proofs.Members as members
+use Rattle.numbers.proofs.Picks.{tested-ap}
+use Rattle.members.specs.Row.{Call, answers, digested, counted, row}
+use Rattle.members.specs.Member.{keyRow, Member, Reads, pushed, total, inRange, closedDigest, reached, askTests, updateTests, finalized, counts, updated, stateTaker, rowTaker, update-answer, hash-answer, count-answer, one-shot-answer, taker}
+use Rattle.members.proofs.Laws.{Laws, Begun}
+use Rattle.members.proofs.Pieces as pieces
+use Rattle.members.proofs.Cuts as cuts
+use Rattle.members.proofs.History as histories
+use Rattle.members.proofs.OneShot as one-shot
 
 -- what was put into a record is read out of it
 pub record Faithful {S U H C : Type 0} (r : Reads S U H C) : Type 0 where
@@ -26,57 +30,71 @@ module _ {P S L U H C : Type 0} (m : Member P S L) (laws : Laws m) (r : Reads S 
   open Faithful faithful using (number-of, state-of, digest-of, none-of, count-of)
 
   number-is : (s : S) (a : List ℕ) → taker m r .number s a ≡ stateTaker m .number s a
-  number-is s a = updated-ap m numberOf (r .state accepted) (λ n. r .state n s) s a ∙ (λ i. updated m (λ t. number-of accepted t i) (λ n. number-of n s i) s a)
+  number-is s a =
+      tested-ap numberOf (updateTests m s a) (r .state accepted (pushed m s a)) (λ n. r .state n s)
+      ∙ (λ i. updated m (λ t. number-of accepted t i) (λ n. number-of n s i) s a)
 
   next-is : (s : S) (a : List ℕ) → taker m r .next s a ≡ stateTaker m .next s a
-  next-is s a = updated-ap m stateOf (r .state accepted) (λ n. r .state n s) s a ∙ (λ i. updated m (λ t. state-of accepted t i) (λ n. state-of n s i) s a)
+  next-is s a =
+      tested-ap stateOf (updateTests m s a) (r .state accepted (pushed m s a)) (λ n. r .state n s)
+      ∙ (λ i. updated m (λ t. state-of accepted t i) (λ n. state-of n s i) s a)
 
+  digested-is : (s : S) → taker m r .digested s ≡ stateTaker m .digested s
+  digested-is s = tested-ap digestedOf (askTests m s) (r .made (closedDigest m s)) (r .none) ∙ (λ i. finalized m (λ d. digest-of d i) (λ n. none-of n i) s)
+
+  counted-is : (s : S) → taker m r .counted s ≡ stateTaker m .counted s
+  counted-is s =
+      tested-ap countedOf (askTests m s) (r .count accepted (total m s - keyRow (m .bounds) (m .keyed s))) (λ n. r .count n 0)
+      ∙ (λ i. counts m (λ c. count-of accepted c i) (λ n. count-of n 0 i) s)
+
+  -- the crate's calls are the member's
   pub same-taker : taker m r ≡ stateTaker m
-  same-taker = λ i. record {
-    number = λ s a. number-is s a i;
-    next = λ s a. next-is s a i;
-    digested = λ s. (finalized-ap m digestedOf (r .made) (r .none) s ∙ (λ j. finalized m (λ d. digest-of d j) (λ n. none-of n j) s)) i;
-    counted = λ s. (counts-ap m countedOf (r .count accepted) (λ n. r .count n 0) s ∙ (λ j. counts m (λ c. count-of accepted c j) (λ n. count-of n 0 j) s)) i;
-  }
+  same-taker = λ i. record { number = λ s a. number-is s a i; next = λ s a. next-is s a i; digested = λ s. digested-is s i; counted = λ s. counted-is s i }
 
   -- an update of no bytes changes nothing
   pub empty-changes-nothing : (s : S) → Sound (m .machine) (m .core s) → inRange m s ≡ true → update-answer m r s [] ≡ r .state accepted s
-  empty-changes-nothing s sound good = members.empty-changes-nothing m laws (r .state accepted) (λ n. r .state n s) s good sound
+  empty-changes-nothing s sound good = pieces.empty-changes-nothing m laws (r .state accepted) (λ n. r .state n s) s good sound
 
   module _ (p : P) (begun : Begun m p) where
     -- whatever a fresh state is asked, it answers as the row of no bytes would
-    pub history : (cs : List Call) → answers (taker m r) (m .fresh p) cs ≡ answers (rowTaker m p) [] cs
-    history cs = (λ i. answers (same-taker i) (m .fresh p) cs) ∙ members.history m laws p begun cs
+    pub history : (cs : List (Call (List ℕ))) → answers (taker m r) (m .fresh p) cs ≡ answers (rowTaker m) (row p []) cs
+    history cs = (λ i. answers (same-taker i) (m .fresh p) cs) ∙ histories.history m laws p begun cs
 
     module _ (ps : List (List ℕ)) (within : m .ahead p + length (joined ps) ≤ m .bounds .limit) where
-      pub by-updates : foldl (taker m r .next) (m .fresh p) ps ≡ reached m p ps
-      by-updates = (λ i. foldl (λ s a. next-is s a i) (m .fresh p) ps) ∙ members.reached-by-updates m laws p begun ps within
+      by-updates : foldl (taker m r .next) (m .fresh p) ps ≡ reached m p ps
+      by-updates = (λ i. foldl (λ s a. next-is s a i) (m .fresh p) ps) ∙ cuts.reached-by-updates m laws p begun ps within
 
       -- in any cuts, once every piece came by an update: the digest is the paper's of the joined bytes, and the count their number
       pub digest-in-any-cuts : hash-answer m r (foldl (taker m r .next) (m .fresh p) ps) ≡ r .made (m .digest p (joined ps))
-      digest-in-any-cuts = ap (hash-answer m r) by-updates ∙ members.digest-reached m laws p begun ps within (r .made) (r .none)
+      digest-in-any-cuts = ap (hash-answer m r) by-updates ∙ cuts.digest-reached m laws p begun ps within (r .made) (r .none)
 
       pub count-in-any-cuts : count-answer m r (foldl (taker m r .next) (m .fresh p) ps) ≡ r .count accepted (length (joined ps))
-      count-in-any-cuts = ap (count-answer m r) by-updates ∙ members.count-reached m laws p begun ps within (r .count accepted) (λ n. r .count n 0)
+      count-in-any-cuts = ap (count-answer m r) by-updates ∙ cuts.count-reached m laws p begun ps within (r .count accepted) (λ n. r .count n 0)
 
     module _ (a : List ℕ) where
       -- the one-shot answer is that of a state that took the message
-      pub one-shot-is-incremental : m .ahead p + length a ≤ m .bounds .limit → one-shot-answer m r p a ≡ hash-answer m r (stateOf (update-answer m r (m .fresh p) a))
-      one-shot-is-incremental within = members.one-shot-is-incremental m laws p begun a within (r .made) (r .none) ∙ ap (hash-answer m r) (sym (next-is (m .fresh p) a))
+      pub one-shot-is-incremental : m .ahead p + length a ≤ m .bounds .limit
+          → one-shot-answer m r p a ≡ hash-answer m r (stateOf (update-answer m r (m .fresh p) a))
+      one-shot-is-incremental within =
+          one-shot.one-shot-is-incremental m laws p begun a (r .made) (r .none) within ∙ ap (hash-answer m r) (sym (next-is (m .fresh p) a))
 
       pub hashed-within : m .ahead p + length a ≤ m .bounds .limit → one-shot-answer m r p a ≡ r .made (m .digest p a)
-      hashed-within within = members.hashed-within m laws p begun a within (r .made) (r .none)
+      hashed-within within = one-shot.hashed-within m laws p begun a (r .made) (r .none) within
 
-      module _ {q : H} where
-        -- through a state: a refusal of the update is that of the hash
-        module _ {u : U} (e : u ≡ update-answer m r (m .fresh p) a) where
-          pub hashed-past : (numberOf u ≡ accepted → ⊥) → q ≡ r .none total-over → q ≡ one-shot-answer m r p a
-          hashed-past f g = members.hashed-past m laws p begun a (r .made) (r .none) (ap numberOf e ∙ number-is (m .fresh p) a) f g
+      -- through a state: a refusal of the update is that of the hash
+      module _ {u : U} (e : u ≡ update-answer m r (m .fresh p) a) where
+        number-of-update : numberOf u ≡ stateTaker m .number (m .fresh p) a
+        number-of-update = ap numberOf e ∙ number-is (m .fresh p) a
 
-          pub hashed-through : numberOf u ≡ accepted → q ≡ hash-answer m r (stateOf u) → q ≡ one-shot-answer m r p a
-          hashed-through f g =
-              members.hashed-through m laws p begun a (r .made) (r .none) (ap numberOf e ∙ number-is (m .fresh p) a) f (g ∙ ap (hash-answer m r) (ap stateOf e ∙ next-is (m .fresh p) a))
+        pub hashed-past : {q : H} → (numberOf u ≡ accepted → ⊥) → q ≡ r .none total-over → q ≡ one-shot-answer m r p a
+        hashed-past f g = one-shot.hashed-past m laws p begun a (r .made) (r .none) number-of-update f g
 
-        -- straight, where no key block stands in front
-        pub hashed-straight : m .front p ≡ [] → length a ≤ m .bounds .limit → q ≡ r .made (m .close (m .fresh p) (m .core (m .fresh p) .at) 0 a) → q ≡ one-shot-answer m r p a
-        hashed-straight none few e = members.hashed-straight m laws p begun a (r .made) (r .none) none few e
+        pub hashed-through : {q : H} → numberOf u ≡ accepted → q ≡ hash-answer m r (stateOf u) → q ≡ one-shot-answer m r p a
+        hashed-through f g =
+            one-shot.hashed-through m laws p begun a (r .made) (r .none) number-of-update f
+            (g ∙ ap (hash-answer m r) (ap stateOf e ∙ next-is (m .fresh p) a))
+
+      -- straight, where no key block stands in front
+      pub hashed-straight : {q : H} → m .front p ≡ [] → length a ≤ m .bounds .limit
+          → q ≡ r .made (m .close (m .fresh p) (m .core (m .fresh p) .at) 0 a) → q ≡ one-shot-answer m r p a
+      hashed-straight none few e = one-shot.hashed-straight m laws p begun a (r .made) (r .none) none few e

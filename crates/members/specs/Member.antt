@@ -8,8 +8,9 @@ use lib.ListN.{length}
 use Rattle.laws_states.specs.Buffer.{Machine, Held}
 use Rattle.laws_states.specs.Buffer as buffer
 use Rattle.numbers.specs.Numbers.{accepted, total-over, bad-record}
-use Rattle.numbers.specs.Row.{Taker, Answer, digested, counted}
-use Rattle.members.specs.Tests.{Test, test, tested}
+use Rattle.numbers.specs.Tests.{Test, test, tested}
+use Rattle.members.specs.Row.{Answer, digested, counted, Taker, Row}
+use Rattle.members.specs.Row as row
 
 pub record Bounds : Type 0 where
   -- the longest digest; the bytes of the buffer; the bytes that came for each one counted; what a key adds to the total; the greatest total
@@ -111,7 +112,7 @@ module _ {P S L : Type 0} (m : Member P S L) where
     hashed ok bad p a = tested (hashTests p a) (ok (m .digest p a)) bad
 
   -- the state: each call by its number and what it hands back
-  abbrev pub stateTaker : Taker S
+  abbrev pub stateTaker : Taker S (List ℕ)
   stateTaker = record {
     number = λ s a. updated (λ t. accepted) (λ n. n) s a;
     next = λ s a. updated (λ t. t) (λ n. s) s a;
@@ -147,7 +148,7 @@ module _ {P S L U H C : Type 0} (m : Member P S L) (r : Reads S U H C) where
   abbrev pub one-shot-answer : P → List ℕ → H
   one-shot-answer p a = hashed m (r .made) (r .none) p a
 
-  abbrev pub taker : Taker S
+  abbrev pub taker : Taker S (List ℕ)
   taker = record {
     number = λ s a. r .numberOf (update-answer s a);
     next = λ s a. r .stateOf (update-answer s a);
@@ -155,14 +156,6 @@ module _ {P S L U H C : Type 0} (m : Member P S L) (r : Reads S U H C) where
     counted = λ s. r .countedOf (count-answer s);
   }
 
--- a row of the bytes accepted, as numbers' row, with a limit
-abbrev pub rowWithin : ℕ → (List ℕ → ℕ) → (List ℕ → List ℕ) → Taker (List ℕ)
-rowWithin limit total hash = record {
-  number = λ bytes a. cond (leb (total bytes + length a) limit) accepted total-over;
-  next = λ bytes a. cond (leb (total bytes + length a) limit) (bytes ++ a) bytes;
-  digested = λ bytes. digested accepted (hash bytes);
-  counted = λ bytes. counted accepted (length bytes);
-}
-
-abbrev pub rowTaker : {P S L : Type 0} → Member P S L → P → Taker (List ℕ)
-rowTaker m p = rowWithin (m .bounds .limit) (λ bytes. m .ahead p + length bytes) (m .digest p)
+-- the row of a member: its total counts the key blocks, and its digest is the paper's
+abbrev pub rowTaker : {P S L : Type 0} → Member P S L → Taker (Row P) (List ℕ)
+rowTaker m = row.rowTaker (m .bounds .limit) (λ p bytes. m .ahead p + length bytes) (m .digest)

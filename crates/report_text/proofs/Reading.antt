@@ -14,8 +14,8 @@ use Rattle.numbers.specs.Numbers.{accepted, total-over, limit}
 use Rattle.hash.specs.Hash.{digestOf}
 use Rattle.blake2b.specs.Params.{defaults}
 use Rattle.blake2b.specs.State.{pushed, stateInRange, fresh, updated, finalized, counted}
-use Rattle.numbers.specs.Row.{Answer}
-use Rattle.numbers.specs.Row as row
+use Rattle.members.specs.Row.{Answer}
+use Rattle.members.specs.Row as row
 use Rattle.blake2b.specs.declared.state.State.{State}
 use Rattle.blake2b.specs.declared.state.StateAnswer.{StateAnswer}
 use Rattle.blake2b.proofs.Cleaned.{good-defaults}

@@ -9,7 +9,7 @@ use Rattle.numbers.specs.Numbers.{limit}
 use Rattle.blake2b.specs.Params.{inRange}
 use Rattle.blake2b.specs.State.{fresh, updated, hashed}
 use Rattle.blake2b.specs.declared.state.State.{State}
-use Rattle.members.proofs.Picks.{refused}
+use Rattle.numbers.proofs.Picks.{refused}
 use Rattle.blake2b.proofs.OneShot.{hashed-past, hashed-through, hashed-straight}
 use borrow.Author.Needs.{needs}
 use Rattle.blake2b.proofs.params.Params.hash.Statement.{statement}

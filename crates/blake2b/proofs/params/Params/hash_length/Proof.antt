@@ -4,7 +4,7 @@ use mathlib.Core.Path.{sym, _∙_}
 use borrow.Author.Tests.{not-true, not-false}
 use native.Mathlib.Omega.{arith}
 use Rattle.hash.proofs.Digests.{digest-length-bounds}
-use Rattle.members.proofs.Picks.{passed, refused, holds, fails}
+use Rattle.numbers.proofs.Picks.{passed, refused, holds, fails}
 use borrow.Author.Needs.{needs}
 use Rattle.blake2b.proofs.params.Params.hash_length.Statement.{statement}
 use Rattle.blake2b.proofs.params.Params.hash_length.Tie as tie

@@ -1,7 +1,7 @@
 -- `blake2b::params::Params::inner_hash_length` meets its contract.
 -- Assumes nothing.
 use borrow.Author.Tests.{le-leb, lt-leb}
-use Rattle.members.proofs.Picks.{passed, refused, holds, fails}
+use Rattle.numbers.proofs.Picks.{passed, refused, holds, fails}
 use borrow.Author.Needs.{needs}
 use Rattle.blake2b.proofs.params.Params.inner_hash_length.Statement.{statement}
 use Rattle.blake2b.proofs.params.Params.inner_hash_length.Tie as tie

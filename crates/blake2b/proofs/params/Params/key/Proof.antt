@@ -6,7 +6,7 @@ use denote.Ref.{now}
 use lib.ListN.{length}
 use Rattle.numbers.specs.Numbers.{accepted}
 use Rattle.blake2b.specs.Params.{withFields}
-use Rattle.members.proofs.Picks.{passed, refused, holds, fails}
+use Rattle.numbers.proofs.Picks.{passed, refused, holds, fails}
 use borrow.Author.Needs.{needs}
 use Rattle.blake2b.proofs.params.Params.key.Statement.{statement}
 use Rattle.blake2b.proofs.params.Params.key.Tie as tie

@@ -1,6 +1,6 @@
 -- `blake2b::params::Params::max_leaf_length` meets its contract.
 -- Assumes nothing.
-use Rattle.members.proofs.Picks.{passed, refused}
+use Rattle.numbers.proofs.Picks.{passed, refused}
 use borrow.Author.Needs.{needs}
 use Rattle.blake2b.proofs.params.Params.max_leaf_length.Statement.{statement}
 use Rattle.blake2b.proofs.params.Params.max_leaf_length.Tie as tie

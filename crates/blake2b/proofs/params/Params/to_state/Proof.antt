@@ -2,7 +2,7 @@
 -- Assumes nothing.
 use mathlib.Core.Path.{ap}
 use Rattle.numbers.specs.Numbers.{accepted, bad-record}
-use Rattle.members.proofs.Picks.{passed, refused}
+use Rattle.numbers.proofs.Picks.{passed, refused}
 use Rattle.blake2b.specs.State.{reads, opened}
 use borrow.Author.Needs.{needs}
 use Rattle.blake2b.proofs.params.Params.to_state.Statement.{statement}

@@ -7,7 +7,7 @@ use native.Mathlib.Omega.{arith}
 use Rattle.numbers.specs.Numbers.{accepted}
 use Rattle.members.specs.Member.{keyRow}
 use Rattle.members.proofs.Ranges.{Kept, kept}
-use Rattle.members.proofs.Picks.{passed, refused}
+use Rattle.numbers.proofs.Picks.{passed, refused}
 use Rattle.blake2b.specs.State.{total, bounds, reads, counted, member}
 use borrow.Author.Needs.{needs}
 use Rattle.blake2b.proofs.state.State.count.Statement.{statement}

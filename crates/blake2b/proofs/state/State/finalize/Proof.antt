@@ -9,7 +9,7 @@ use lib.ListN.{length, take, length-take}
 use Rattle.laws_states.specs.Buffer.{pending}
 use Rattle.hash.proofs.Digests.{digest-length-is, made-hash}
 use Rattle.members.proofs.Ranges.{Kept, kept}
-use Rattle.members.proofs.Picks.{passed, refused}
+use Rattle.numbers.proofs.Picks.{passed, refused}
 use Rattle.definitions.specs.Family.{BLAKE2b}
 use Rattle.definitions.specs.Hash.{stateBytes}
 use Rattle.laws_blocks.specs.Blocks.{throughBlocks}

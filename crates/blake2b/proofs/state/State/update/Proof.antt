@@ -9,7 +9,7 @@ use Rattle.numbers.specs.Numbers.{accepted, limit}
 use Rattle.laws_blocks.specs.Chain.{spare}
 use Rattle.laws_blocks.proofs.Rows.{spare-none}
 use Rattle.members.proofs.Ranges.{Kept, kept}
-use Rattle.members.proofs.Picks.{passed, refused, holds, fails}
+use Rattle.numbers.proofs.Picks.{passed, refused, holds, fails}
 use Rattle.blake2b.specs.State.{total, pushed, reads, updated, member}
 use Rattle.blake2b.specs.declared.state.State.{State}
 use Rattle.members.proofs.Moves.{taken-tight}

@@ -9,7 +9,7 @@ use Rattle.numbers.specs.Numbers.{limit}
 use Rattle.blake2bp.specs.Params.{inRange}
 use Rattle.blake2bp.specs.State.{fresh, updated, hashed}
 use Rattle.blake2bp.specs.declared.state.State.{State}
-use Rattle.members.proofs.Picks.{refused}
+use Rattle.numbers.proofs.Picks.{refused}
 use Rattle.blake2bp.proofs.Cleaned.{Good}
 use Rattle.blake2bp.proofs.OneShot.{hashed-past, hashed-through, hashed-straight}
 use Rattle.blake2bp.proofs.Setters.{key-short}

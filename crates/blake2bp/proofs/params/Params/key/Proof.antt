@@ -5,7 +5,7 @@ use borrow.Author.Tests.{le-leb, lt-leb}
 use denote.Ref.{now}
 use lib.ListN.{length}
 use Rattle.numbers.specs.Numbers.{accepted}
-use Rattle.members.proofs.Picks.{passed, refused, holds, fails}
+use Rattle.numbers.proofs.Picks.{passed, refused, holds, fails}
 use Rattle.blake2bp.specs.Params.{answered}
 use borrow.Author.Needs.{needs}
 use Rattle.blake2bp.proofs.params.Params.key.Statement.{statement}

@@ -8,7 +8,7 @@ use lib.ListN.{length}
 use Rattle.numbers.specs.Numbers.{accepted, limit}
 use Rattle.blake2bp.specs.State.{total, pushed, reads, updated, member}
 use Rattle.members.proofs.Ranges.{Kept, kept}
-use Rattle.members.proofs.Picks.{passed, refused, holds, fails}
+use Rattle.numbers.proofs.Picks.{passed, refused, holds, fails}
 use Rattle.blake2bp.specs.declared.state.State.{State}
 use Rattle.members.proofs.Moves.{taken-long, taken-fill, taken-spill}
 use Rattle.blake2bp.proofs.States.{laws}

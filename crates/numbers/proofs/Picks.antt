@@ -5,7 +5,7 @@ use mathlib.Core.Bool.{Bool, true, false, cond, not, _&&_}
 use mathlib.Core.List.{List, [], _∷_}
 use Prim.Native.Nat.{ℕ}
 use borrow.Author.Tests.{not-true, not-false}
-use Rattle.members.specs.Tests.{Test, tested}
+use Rattle.numbers.specs.Tests.{Test, tested}
 
 module _ {A : Type 0} (b : Bool) (x y : A) {r : A} where
   pub holds : b ≡ true → r ≡ x → r ≡ cond b x y

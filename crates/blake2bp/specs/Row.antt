@@ -2,18 +2,20 @@
 -- The row's side goes by the paper's one-shot tree and by numbers of bytes alone. Assumes nothing.
 use mathlib.Core.List.{List}
 use Prim.Native.Nat.{ℕ, _+_}
-use lib.Dec.{leb}
 use lib.ListN.{length}
 use Rattle.definitions.specs.Tree.{BLAKE2bp}
-use Rattle.members.specs.Row.{Taker, digested, counted, row}
+use Rattle.numbers.specs.Numbers.{limit}
+use Rattle.members.specs.Row.{Taker, Row, digested, counted}
+use Rattle.members.specs.Row as rows
 use Rattle.hash.specs.Hash.{digestOf}
-use Rattle.members.specs.Member.{keyRow}
-use Rattle.blake2bp.specs.State.{bounds, updated, finalized}
+use Rattle.blake2bp.specs.Params.{keyOf}
+use Rattle.blake2bp.specs.State.{keyBytes, updated, finalized}
 use Rattle.blake2bp.specs.State as state
+use Rattle.blake2bp.specs.declared.params.Params.{Params}
 use Rattle.blake2bp.specs.declared.state.State.{State}
 
 -- the state: each call as the crate's function of that name promises it
-abbrev pub stateTaker : Taker State
+abbrev pub stateTaker : Taker State (List ℕ)
 stateTaker = record {
   number = λ s a. updated s a .number;
   next = λ s a. updated s a .state;
@@ -21,6 +23,6 @@ stateTaker = record {
   counted = λ s. counted (state.counted s .number) (state.counted s .count .0);
 }
 
--- the row: the digest length and the key; a key block for each leaf is part of the total
-abbrev pub rowTaker : ℕ → List ℕ → Taker (List ℕ)
-rowTaker d key = row (λ bytes. keyRow bounds (leb 1 (length key)) + length bytes) (BLAKE2bp d key)
+-- the row: a key block for each leaf is part of the total
+abbrev pub rowTaker : Taker (Row Params) (List ℕ)
+rowTaker = rows.rowTaker limit (λ p bytes. keyBytes p + length bytes) (λ p bytes. BLAKE2bp (p .«hash_length») (keyOf p) bytes)

@@ -1,16 +1,19 @@
 -- One kind of slots follows another through a function of what they hold: then replies, batches, steps and whole histories do, and what is
 -- valid stays valid. Over any number of slots and any limit of records. Assumes nothing.
-use mathlib.Core.Path.{_≡_, refl, ap}
-use mathlib.Core.Bool.{Bool, true, cond, _&&_}
+use mathlib.Core.Path.{_≡_, refl, sym, ap}
+use mathlib.Core.Bool.{Bool, true, _&&_}
 use mathlib.Core.List.{List, [], _∷_, map}
 use Prim.Native.Nat.{ℕ, zero, suc}
 use borrow.Author.Tests.{eqb-true}
 use lib.Dec.{ltb, leb, eqb}
 use lib.ListN.{length, getD, set, take, List·getD-map}
 use Rattle.numbers.specs.Numbers.{accepted, pieceOk}
+use Rattle.numbers.proofs.Picks.{tested-keeps, tested-both}
+use Rattle.numbers.proofs.Picks as picks
+use Rattle.members.specs.Row.{Answer, numbered}
 use Rattle.blake2b.specs.Params.{inRange, Clean}
 use Rattle.blake2b.specs.declared.params.Params.{Params}
-use Rattle.bank.specs.Rules.{Ask, opening, update, digest, digest-to, count, close, Call, on, update-many, Answer, Reply, Result, Kind, written, placeFault, piece, every, goodAsk, reply, fed, at, fault, batch, step, answers, after}
+use Rattle.bank.specs.Rules.{Ask, opening, update, digest, digest-to, count, close, Call, on, update-many, Reply, Result, Kind, written, openTests, placeFault, piece, every, goodAsk, updated, done, reply, fed, at, fault, batch, step, answers, after}
 use Rattle.bank.specs.Made.{MadeAsk, Made, All}
 use Rattle.bank.specs.declared.piece.Piece.{Piece}
 use Rattle.bank.proofs.Cases.{both, either}
@@ -40,44 +43,54 @@ map-set f (x ∷ xs) (suc k) v = ap (λ (ys : List _). f x ∷ ys) (map-set f xs
 
 pub record Follows {X Y : Type 0} (a : Kind X) (b : Kind Y) (f : X → Y) (Valid : X → Type 0) : Type 0 where
   pub closed : f (a .closed) ≡ b .closed
+  pub opened : (p : Params) → Clean p → f (a .opened p) ≡ b .opened p
   pub isOpen : (x : X) → b .isOpen (f x) ≡ a .isOpen x
   pub good : (x : X) → Valid x → b .good (f x) ≡ a .good x
-  pub opened : (p : Params) → Clean p → f (a .opened p) ≡ b .opened p
-  pub updated : (x : X) → Valid x → a .isOpen x ≡ true → (d : List ℕ) → b .updated (f x) d ≡ mapReply f (a .updated x d)
-  pub digested : (x : X) → Valid x → a .isOpen x ≡ true → b .digested (f x) ≡ a .digested x
-  pub counted : (x : X) → Valid x → a .isOpen x ≡ true → b .counted (f x) ≡ a .counted x
+  pub number : (x : X) → Valid x → a .isOpen x ≡ true → (d : List ℕ) → b .taker .number (f x) d ≡ a .taker .number x d
+  pub next : (x : X) → Valid x → a .isOpen x ≡ true → (d : List ℕ) → b .taker .next (f x) d ≡ f (a .taker .next x d)
+  pub digested : (x : X) → Valid x → a .isOpen x ≡ true → b .taker .digested (f x) ≡ a .taker .digested x
+  pub counted : (x : X) → Valid x → a .isOpen x ≡ true → b .taker .counted (f x) ≡ a .taker .counted x
   pub closed-valid : Valid (a .closed)
   pub opened-valid : (p : Params) → Clean p → inRange p ≡ true → Valid (a .opened p)
-  pub updated-valid : (x : X) → Valid x → a .isOpen x ≡ true → (d : List ℕ) → Valid (a .updated x d .slot)
+  pub next-valid : (x : X) → Valid x → a .isOpen x ≡ true → (d : List ℕ) → Valid (a .taker .next x d)
 
 module _ {X Y : Type 0} (a : Kind X) (b : Kind Y) (f : X → Y) (Valid : X → Type 0) (F : Follows a b f Valid) where
   -- one slot
   module _ (x : X) (valid : Valid x) where
-    -- an answer that changes nothing
-    asked : (s t u : Answer) → (a .isOpen x ≡ true → t ≡ s) → record { answer = cond (b .isOpen (f x)) t u; slot = f x } ≡ mapReply f (record { answer = cond (a .isOpen x) s u; slot = x })
-    asked s t u h = rw (F .isOpen x) (ap (λ (w : Answer). record { answer = w; slot = f x }) (both (λ (w : Answer). w) (a .isOpen x) h (λ e. refl)))
+    updated-follows : a .isOpen x ≡ true → (d : List ℕ) → updated b (f x) d ≡ mapReply f (updated a x d)
+    updated-follows e d = λ i. record { answer = numbered (F .number x valid e d i); slot = F .next x valid e d i }
+
+    -- an answer that leaves the slot
+    answering : {s t : Answer} → t ≡ s → record { answer = t; slot = f x } ≡ mapReply f (record { answer = s; slot = x })
+    answering e = λ i. record { answer = e i; slot = f x }
+
+    done-follows : (ask : Ask) → MadeAsk ask → picks.All (openTests (a .isOpen x) ask) → done b (f x) ask ≡ mapReply f (done a x ask)
+    done-follows (opening p) made all = λ i. record { answer = numbered accepted; slot = sym (F .opened p made) i }
+    done-follows (update d) made all = updated-follows (all .0) d
+    done-follows digest made all = answering (F .digested x valid (all .0))
+    done-follows (digest-to out) made all = answering (ap (λ (w : Answer). written w out) (F .digested x valid (all .0)))
+    done-follows count made all = answering (F .counted x valid (all .0))
+    done-follows close made all = λ i. record { answer = numbered accepted; slot = sym (F .closed) i }
 
     reply-follows : (ask : Ask) → MadeAsk ask → reply b (f x) ask ≡ mapReply f (reply a x ask)
     unfolding reply
-    reply-follows (opening p) made = rw (F .isOpen x, ← F .opened p made) (both (mapReply f) (a .isOpen x) (λ e. refl) (λ e. refl))
-    reply-follows (update d) made = rw (F .isOpen x) (both (mapReply f) (a .isOpen x) (λ e. F .updated x valid e d) (λ e. refl))
-    reply-follows digest made = asked _ _ _ (λ e. F .digested x valid e)
-    reply-follows (digest-to out) made = asked _ _ _ (λ e. ap (λ (w : Answer). written w out) (F .digested x valid e))
-    reply-follows count made = asked _ _ _ (λ e. F .counted x valid e)
-    reply-follows close made = rw (F .isOpen x, ← F .closed) (both (mapReply f) (a .isOpen x) (λ e. refl) (λ e. refl))
+    reply-follows ask made = rw (F .isOpen x) (tested-both (mapReply f) (openTests (a .isOpen x) ask) (λ all. done-follows ask made all) (λ n. refl))
 
     -- what is valid stays so
     abbrev Kept : Reply X → Type 0
     Kept r = Valid (r .slot)
 
+    done-valid : (ask : Ask) → MadeAsk ask → goodAsk ask ≡ true → picks.All (openTests (a .isOpen x) ask) → Kept (done a x ask)
+    done-valid (opening p) made good all = F .opened-valid p made good
+    done-valid (update d) made good all = F .next-valid x valid (all .0) d
+    done-valid digest made good all = valid
+    done-valid (digest-to out) made good all = valid
+    done-valid count made good all = valid
+    done-valid close made good all = F .closed-valid
+
     reply-valid : (ask : Ask) → MadeAsk ask → goodAsk ask ≡ true → Kept (reply a x ask)
     unfolding reply
-    reply-valid (opening p) made good = either Kept (a .isOpen x) _ _ (λ e. valid) (λ e. F .opened-valid p made good)
-    reply-valid (update d) made good = either Kept (a .isOpen x) _ _ (λ e. F .updated-valid x valid e d) (λ e. valid)
-    reply-valid digest made good = valid
-    reply-valid (digest-to out) made good = valid
-    reply-valid count made good = valid
-    reply-valid close made good = either Kept (a .isOpen x) _ _ (λ e. F .closed-valid) (λ e. valid)
+    reply-valid ask made good = tested-keeps Kept (openTests (a .isOpen x) ask) _ _ (λ all. done-valid ask made good all) (λ n. valid)
 
     fed-follows : (p : Piece) (d : List ℕ) → fed b (f x) p d ≡ mapReply f (fed a x p d)
     unfolding fed
@@ -85,14 +98,14 @@ module _ {X Y : Type 0} (a : Kind X) (b : Kind Y) (f : X → Y) (Valid : X → T
         let inside : Bool = pieceOk (p .start) (p .length) (length d) in
         rw (F .isOpen x)
         (both (mapReply f) (eqb (placeFault (a .isOpen x) inside) accepted)
-        (λ e. F .updated x valid (placed (a .isOpen x) inside (eqb-true (placeFault (a .isOpen x) inside) accepted e) .0) (piece p d)) (λ e. refl))
+        (λ e. updated-follows (placed (a .isOpen x) inside (eqb-true (placeFault (a .isOpen x) inside) accepted e) .0) (piece p d)) (λ e. refl))
 
     fed-valid : (p : Piece) (d : List ℕ) → Kept (fed a x p d)
     unfolding fed
     fed-valid p d =
         let inside : Bool = pieceOk (p .start) (p .length) (length d) in
         either Kept (eqb (placeFault (a .isOpen x) inside) accepted) _ _
-        (λ e. F .updated-valid x valid (placed (a .isOpen x) inside (eqb-true (placeFault (a .isOpen x) inside) accepted e) .0) (piece p d)) (λ e. valid)
+        (λ e. F .next-valid x valid (placed (a .isOpen x) inside (eqb-true (placeFault (a .isOpen x) inside) accepted e) .0) (piece p d)) (λ e. valid)
 
   -- all slots
   at-follows : (xs : List X) (k : ℕ) → at b (map f xs) k ≡ f (at a xs k)

@@ -9,7 +9,8 @@ use lib.Dec.{leb, eqb}
 use lib.ListN.{set, take}
 use lib.Seq.{set-getD, getD-set-other}
 use Rattle.numbers.specs.Numbers.{accepted}
-use Rattle.bank.specs.Rules.{Ask, opening, update, digest, digest-to, count, close, Call, on, update-many, Reply, Result, Kind, every, goodAsk, reply, fed, at, fault, batch, step, after}
+use Rattle.numbers.proofs.Picks.{All, tested-keeps}
+use Rattle.bank.specs.Rules.{Ask, opening, update, digest, digest-to, count, close, Call, on, update-many, Reply, Result, Kind, openTests, every, goodAsk, done, reply, fed, at, fault, batch, step, after}
 use Rattle.bank.specs.Apart.{among, names, Spared}
 use Rattle.bank.specs.declared.piece.Piece.{Piece}
 use Rattle.bank.proofs.Cases.{either}
@@ -27,20 +28,33 @@ Asks close = ⊥
 module _ {X : Type 0} (kind : Kind X) where
   -- an open slot that refuses an update is as it was
   abbrev pub Steady : Type 0
-  Steady = (x : X) (d : List ℕ) → kind .isOpen x ≡ true → (kind .updated x d .answer .number ≡ accepted → ⊥) → kind .updated x d .slot ≡ x
+  Steady = (x : X) (d : List ℕ) → kind .isOpen x ≡ true → (kind .taker .number x d ≡ accepted → ⊥) → kind .taker .next x d ≡ x
 
   -- a refused reply leaves the slot
   abbrev Left : X → Reply X → Type 0
   Left x r = (r .answer .number ≡ accepted → ⊥) → r .slot ≡ x
 
+  done-left : Steady → (x : X) (ask : Ask) → All (openTests (kind .isOpen x) ask) → Left x (done kind x ask)
+  done-left steady x (opening p) all = λ h. absurd (h refl)
+  done-left steady x (update d) all = λ h. steady x d (all .0) h
+  done-left steady x digest all = λ h. refl
+  done-left steady x (digest-to out) all = λ h. refl
+  done-left steady x count all = λ h. refl
+  done-left steady x close all = λ h. absurd (h refl)
+
   reply-left : Steady → (x : X) (ask : Ask) → Left x (reply kind x ask)
   unfolding reply
-  reply-left steady x (opening p) = either (Left x) (kind .isOpen x) _ _ (λ e h. refl) (λ e h. absurd (h refl))
-  reply-left steady x (update d) = either (Left x) (kind .isOpen x) _ _ (λ e h. steady x d e h) (λ e h. refl)
-  reply-left steady x digest = λ h. refl
-  reply-left steady x (digest-to out) = λ h. refl
-  reply-left steady x count = λ h. refl
-  reply-left steady x close = either (Left x) (kind .isOpen x) _ _ (λ e h. absurd (h refl)) (λ e h. refl)
+  reply-left steady x ask = tested-keeps (Left x) (openTests (kind .isOpen x) ask) _ _ (λ all. done-left steady x ask all) (λ n h. refl)
+
+  -- and so does a digest or a count, whatever it answers
+  done-asked : (x : X) (ask : Ask) → Asks ask → done kind x ask .slot ≡ x
+  done-asked x digest asks = refl
+  done-asked x (digest-to out) asks = refl
+  done-asked x count asks = refl
+
+  reply-asked : (x : X) (ask : Ask) → Asks ask → reply kind x ask .slot ≡ x
+  unfolding reply
+  reply-asked x ask asks = tested-keeps (λ (r : Reply X). r .slot ≡ x) (openTests (kind .isOpen x) ask) _ _ (λ all. done-asked x ask asks) (λ n. refl)
 
   module _ (n : ℕ) where
     -- what a result keeps of the slots: all where refused; all; the slot k
@@ -91,10 +105,10 @@ module _ {X : Type 0} (kind : Kind X) where
 
       -- a digest and a count leave every slot, whatever they answer
       pub asking-leaves : (xs : List X) (k : ℕ) (ask : Ask) → Asks ask → step kind n most xs (on k ask) .slots ≡ xs
-      unfolding step reply
-      asking-leaves xs k digest asks = either (Same xs) (eqb (fault kind n xs true k) accepted) _ _ (λ e. set-getD xs k (kind .closed)) (λ e. refl)
-      asking-leaves xs k (digest-to out) asks = either (Same xs) (eqb (fault kind n xs true k) accepted) _ _ (λ e. set-getD xs k (kind .closed)) (λ e. refl)
-      asking-leaves xs k count asks = either (Same xs) (eqb (fault kind n xs true k) accepted) _ _ (λ e. set-getD xs k (kind .closed)) (λ e. refl)
+      unfolding step
+      asking-leaves xs k ask asks =
+          either (Same xs) (eqb (fault kind n xs (goodAsk ask) k) accepted) _ _
+          (λ e. ap (set xs k) (reply-asked (at kind xs k) ask asks) ∙ set-getD xs k (kind .closed)) (λ e. refl)
 
       -- any call leaves a slot that it does not name
       pub other-kept : (xs : List X) (c : Call) (k : ℕ) → names k c ≡ false → AtLeft k (at kind xs k) (step kind n most xs c)

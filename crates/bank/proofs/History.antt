@@ -3,162 +3,76 @@
 -- functions: `new` promises the empty bank, and each other public function of src/bank.rt promises `told`, a step of specs/Rules.antt on the
 -- bank's own slots at 16 and 16; a digest or a count hands no bank back, and leaves the slots (Isolation's `asking-leaves-bank`); so a program's
 -- calls on one bank are a list of these same steps, which is what `history` is about. Assumes nothing.
-use mathlib.Core.Path.{_≡_, refl, sym, ap, _∙_}
-use mathlib.Core.Bool.{Bool, true, false, false≢true}
+use mathlib.Core.Path.{_≡_, refl, ap}
+use mathlib.Core.Bool.{true, false≢true}
 use mathlib.Core.List.{List, [], _∷_, map, foldl}
-use mathlib.Core.Option.{Option, none, some}
-use Prim.Native.Nat.{ℕ, zero, suc, _+_, _≤_}
-use native.Mathlib.Omega.{arith}
-use borrow.Author.Tests.{leb-true}
-use lib.Dec.{leb}
-use lib.ListN.{length, replicate, length-append}
-use Rattle.definitions.specs.Family.{BLAKE2b}
-use Rattle.definitions.specs.Hash.{keyed}
-use Rattle.numbers.specs.Numbers.{limit}
-use Rattle.members.specs.Row as row
-use Rattle.blake2b.specs.Params.{defaults, inRange, front, keyOf, Clean, Setting, afterSetting}
-use Rattle.blake2b.specs.State.{pushed, fresh}
-use Rattle.blake2b.specs.State as state
-use Rattle.blake2b.specs.declared.params.Params.{Params}
-use Rattle.blake2b.specs.declared.state.State.{State}
-use Rattle.blake2b.specs.declared.state.StateAnswer.{StateAnswer}
+use mathlib.Core.Option.{none, some}
+use Prim.Native.Nat.{ℕ, zero, suc}
+use lib.ListN.{replicate}
+use Rattle.blake2b.specs.Params.{defaults, Setting, afterSetting}
 use Rattle.blake2b.proofs.Cleaned.{good-defaults, settings-good}
-use Rattle.blake2b.proofs.Pushes.{front-short, sound-fresh}
-use Rattle.blake2b.proofs.Rows.{pushed-none, front-keyed, range-reached, says-digest, says-count, updated-accepted, updated-refused}
-use Rattle.bank.specs.Rules.{opening, Call, on, Reply, numbered, every, answers, after}
+use Rattle.blake2b.proofs.Rows.{stateOf, Reached, range-reached, says-number, says-next, says-digest, says-count, stays-reached, opened-reached, opened-state}
+use Rattle.bank.specs.Rules.{opening, Call, on, every, answers, after}
 use Rattle.bank.specs.Made.{All, Made}
-use Rattle.bank.specs.Table.{Row, rowUpdated, rowDigested, rowCounted, isRow, updatedAt, digestedAt, countedAt, table}
-use Rattle.bank.specs.Slots.{closedSlot, slotGood, slotUpdated, slotDigested, slotCounted, slots, slot-limit, batch-limit, emptyBank}
+use Rattle.bank.specs.Table.{Entry, isRow, table}
+use Rattle.bank.specs.Slots.{closedSlot, openSlot, slotGood, slots, slot-limit, batch-limit, emptyBank}
 use Rattle.bank.specs.declared.slot.Slot.{Slot}
-use Rattle.bank.proofs.Cases.{either}
-use Rattle.bank.proofs.Follows.{Follows, mapReply, answers-follow, after-follows, after-valid}
+use Rattle.bank.proofs.Follows.{Follows, answers-follow, after-follows, after-valid}
 
--- the slot that a row stands for
-abbrev pub slotOf : Option Row → Slot
+-- the slot that an entry stands for
+abbrev pub slotOf : Entry → Slot
 slotOf none = closedSlot
-slotOf (some r) = record { «is_open» = true; state = pushed (fresh (r .params)) (r .bytes) }
+slotOf (some r) = openSlot (stateOf r)
 
--- a row as calls make it: its total is within the limit
-pub record Reached (r : Row) : Type 0 where
-  pub clean : Clean (r .params)
-  pub good : inRange (r .params) ≡ true
-  pub within : length (front (r .params)) + length (r .bytes) ≤ limit
-
-abbrev pub Valid : Option Row → Type 0
+-- a row as calls make it
+abbrev pub Valid : Entry → Type 0
 Valid none = Unit {0}
 Valid (some r) = Reached r
 
--- what one state says
-numberOf : row.Answer → ℕ
-numberOf (row.taken n) = n
-numberOf (row.digested n d) = n
-numberOf (row.counted n c) = n
+is-open : (x : Entry) → slotOf x .«is_open» ≡ isRow x
+is-open none = refl
+is-open (some r) = refl
 
-valueOf : row.Answer → ℕ
-valueOf (row.taken n) = 0
-valueOf (row.digested n d) = 0
-valueOf (row.counted n c) = c
+is-good : (x : Entry) → Valid x → slotGood (slotOf x) ≡ true
+unfolding slotGood
+is-good none v = refl
+is-good (some r) v = range-reached r v
 
-bytesOf : row.Answer → List ℕ
-bytesOf (row.taken n) = []
-bytesOf (row.digested n d) = d
-bytesOf (row.counted n c) = []
+-- the state's calls are its row's
+same-number : (x : Entry) → Valid x → isRow x ≡ true → (d : List ℕ) → slots .taker .number (slotOf x) d ≡ table .taker .number x d
+same-number none v e d = absurd (false≢true e)
+same-number (some r) v e d = says-number r v d
 
-module _ (r : Row) (reached : Reached r) where
-  abbrev p : Params
-  p = r .params
+same-next : (x : Entry) → Valid x → isRow x ≡ true → (d : List ℕ) → slots .taker .next (slotOf x) d ≡ slotOf (table .taker .next x d)
+same-next none v e d = absurd (false≢true e)
+same-next (some r) v e d = ap openSlot (says-next r v d)
 
-  row-good : slotGood (slotOf (some r)) ≡ true
-  unfolding slotGood
-  row-good = range-reached p (reached .clean) (reached .good) (r .bytes) (reached .within)
+same-digest : (x : Entry) → Valid x → isRow x ≡ true → slots .taker .digested (slotOf x) ≡ table .taker .digested x
+same-digest none v e = absurd (false≢true e)
+same-digest (some r) v e = says-digest r v
 
-  -- an update's test, and the row and the slot after it
-  test : List ℕ → Bool
-  test d = leb (length (keyed BLAKE2b (keyOf p) (r .bytes)) + length d) limit
+same-count : (x : Entry) → Valid x → isRow x ≡ true → slots .taker .counted (slotOf x) ≡ table .taker .counted x
+same-count none v e = absurd (false≢true e)
+same-count (some r) v e = says-count r v
 
-  row-updated : (d : List ℕ) → slotUpdated (slotOf (some r)) d ≡ mapReply slotOf (rowUpdated r d)
-  unfolding slotUpdated rowUpdated test
-  row-updated d = split (test d) refl
-    where
-      said : StateAnswer → Reply Slot
-      said a = record { answer = numbered (a .number); slot = record { «is_open» = true; state = a .state } }
-
-      split : (b : Bool) → test d ≡ b → slotUpdated (slotOf (some r)) d ≡ mapReply slotOf (rowUpdated r d)
-      split true e = rw e (ap said (updated-accepted p (reached .clean) (reached .good) (r .bytes) (reached .within) d e))
-      split false e = rw e (ap said (updated-refused p (reached .clean) (reached .good) (r .bytes) (reached .within) d e))
-
-  row-stays : (d : List ℕ) → Valid (rowUpdated r d .slot)
-  unfolding rowUpdated
-  row-stays d =
-      either (λ (s : Reply (Option Row)). Valid (s .slot)) (leb (length (keyed BLAKE2b (keyOf p) (r .bytes)) + length d) limit) _ _
-      (λ e.
-      let l : length (keyed BLAKE2b (keyOf p) (r .bytes)) ≡ length (front p) + length (r .bytes) = ap length (sym (front-keyed p (reached .clean) (r .bytes))) ∙ length-append (front p) (r .bytes) in
-      let m = length-append (r .bytes) d in
-      record { clean = reached .clean; good = reached .good; within = omega (arith, leb-true (length (keyed BLAKE2b (keyOf p) (r .bytes)) + length d) limit e) })
-      (λ e. reached)
-
-  row-digested : slotDigested (slotOf (some r)) ≡ rowDigested r
-  unfolding slotDigested rowDigested numberOf bytesOf
-  row-digested =
-      let says = says-digest p (reached .clean) (reached .good) (r .bytes) (reached .within) in
-      λ i. record { number = numberOf (says i); index = 0; value = 0; bytes = bytesOf (says i) }
-
-  row-counted : slotCounted (slotOf (some r)) ≡ rowCounted r
-  unfolding slotCounted rowCounted numberOf valueOf
-  row-counted =
-      let says = says-count p (reached .clean) (reached .good) (r .bytes) (reached .within) in
-      λ i. record { number = numberOf (says i); index = 0; value = valueOf (says i); bytes = [] }
+stays : (x : Entry) → Valid x → isRow x ≡ true → (d : List ℕ) → Valid (table .taker .next x d)
+stays none v e d = absurd (false≢true e)
+stays (some r) v e d = stays-reached r v d
 
 -- the bank follows the table
-module _ where
-  is-open : (x : Option Row) → slotOf x .«is_open» ≡ isRow x
-  unfolding isRow
-  is-open none = refl
-  is-open (some r) = refl
-
-  is-good : (x : Option Row) → Valid x → slotGood (slotOf x) ≡ true
-  unfolding slotGood
-  is-good none v = refl
-  is-good (some r) v = row-good r v
-
-  is-opened : (p : Params) → Clean p → slotOf (some (record { params = p; bytes = [] })) ≡ record { «is_open» = true; state = fresh p }
-  is-opened p clean = ap (λ (s : State). record { «is_open» = true; state = s }) (pushed-none (fresh p) (sound-fresh p (clean .whole)))
-
-  opened-reached : (p : Params) → Clean p → inRange p ≡ true → Reached (record { params = p; bytes = [] })
-  opened-reached p clean good = let f = front-short p (clean .whole) in record { clean = clean; good = good; within = omega arith }
-
-  is-updated : (x : Option Row) → Valid x → isRow x ≡ true → (d : List ℕ) → slotUpdated (slotOf x) d ≡ mapReply slotOf (updatedAt x d)
-  unfolding isRow updatedAt
-  is-updated none v e d = absurd (false≢true e)
-  is-updated (some r) v e d = row-updated r v d
-
-  stays : (x : Option Row) → Valid x → isRow x ≡ true → (d : List ℕ) → Valid (updatedAt x d .slot)
-  unfolding updatedAt
-  stays none v e d = tt
-  stays (some r) v e d = row-stays r v d
-
-  is-digested : (x : Option Row) → Valid x → isRow x ≡ true → slotDigested (slotOf x) ≡ digestedAt x
-  unfolding isRow digestedAt
-  is-digested none v e = absurd (false≢true e)
-  is-digested (some r) v e = row-digested r v
-
-  is-counted : (x : Option Row) → Valid x → isRow x ≡ true → slotCounted (slotOf x) ≡ countedAt x
-  unfolding isRow countedAt
-  is-counted none v e = absurd (false≢true e)
-  is-counted (some r) v e = row-counted r v
-
 pub follows : Follows table slots slotOf Valid
 follows = record {
   closed = refl;
+  opened = λ p clean. ap openSlot (opened-state p clean);
   isOpen = is-open;
   good = is-good;
-  opened = is-opened;
-  updated = is-updated;
-  digested = is-digested;
-  counted = is-counted;
+  number = same-number;
+  next = same-next;
+  digested = same-digest;
+  counted = same-count;
   closed-valid = tt;
   opened-valid = opened-reached;
-  updated-valid = stays;
+  next-valid = stays;
 }
 
 -- the empty table, and the empty bank
@@ -183,7 +97,7 @@ module _ (n most : ℕ) (cs : List Call) (made : All Made cs) where
   pub rows-reached : All Valid (after table n most (replicate n none) cs)
   rows-reached = after-valid table slots slotOf Valid follows n most (replicate n none) cs (empty-valid n) made
 
-all-good : (xs : List (Option Row)) → All Valid xs → every slotGood (map slotOf xs) ≡ true
+all-good : (xs : List Entry) → All Valid xs → every slotGood (map slotOf xs) ≡ true
 unfolding every
 all-good [] v = refl
 all-good (x ∷ xs) v = rw (is-good x (v .0)) (all-good xs (v .1))

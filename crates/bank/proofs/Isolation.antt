@@ -1,24 +1,27 @@
 -- Nothing that is done to another diver's slot shows in this one: the theorems of Frames and Alone, of the bank's records and of the table's
 -- rows. Over any number of slots and any limit of records. Assumes nothing.
-use mathlib.Core.Path.{_≡_, refl, sym}
-use mathlib.Core.Bool.{true, false, false≢true}
+use mathlib.Core.Path.{_≡_, refl, sym, ap}
+use mathlib.Core.Bool.{Bool, true, false, false≢true}
 use mathlib.Core.List.{List, [], _∷_}
-use mathlib.Core.Option.{Option, none, some}
+use mathlib.Core.Option.{none, some}
 use Prim.Native.Nat.{ℕ, _+_}
 use lib.Dec.{leb, eqb}
 use lib.ListN.{length, take, replicate, length-replicate}
 use Rattle.definitions.specs.Family.{BLAKE2b}
 use Rattle.definitions.specs.Hash.{keyed}
 use Rattle.numbers.specs.Numbers.{accepted, limit}
+use Rattle.members.specs.Row.{Answer, Row}
 use Rattle.blake2b.specs.Params.{keyOf}
+use Rattle.blake2b.specs.Row.{rowTaker}
 use Rattle.blake2b.specs.State.{total, stateInRange, updated}
+use Rattle.blake2b.specs.declared.params.Params.{Params}
 use Rattle.blake2b.specs.declared.state.State.{State}
 use Rattle.blake2b.specs.declared.state.StateAnswer.{StateAnswer}
-use Rattle.bank.specs.Rules.{Ask, Call, on, update-many, Answer, Reply, at, answers, after}
+use Rattle.bank.specs.Rules.{Ask, Call, on, update-many, at, answers, after}
 use Rattle.bank.specs.Made.{All, Made}
 use Rattle.bank.specs.Apart.{Spared, ofSlot, answersOn, onlyOn}
-use Rattle.bank.specs.Table.{Row, rowUpdated, isRow, updatedAt, table}
-use Rattle.bank.specs.Slots.{closedSlot, slotUpdated, slots, slot-limit, batch-limit, told}
+use Rattle.bank.specs.Table.{Entry, table}
+use Rattle.bank.specs.Slots.{closedSlot, slots, slot-limit, batch-limit, told}
 use Rattle.bank.specs.declared.bank.Bank.{Bank}
 use Rattle.bank.specs.declared.slot.Slot.{Slot}
 use Rattle.bank.proofs.Cases.{either}
@@ -37,20 +40,18 @@ state-left s d =
     (λ e. either (StateLeft s) (leb (total s + length d) limit) _ _ (λ h z. absurd (z refl)) (λ h z. refl)) (λ e z. refl)
 
 slots-steady : Steady slots
-unfolding slotUpdated
 slots-steady s d e h = λ i. record { «is_open» = sym e i; state = state-left (s .state) d h i }
 
-abbrev RowLeft : Row → Reply (Option Row) → Type 0
-RowLeft r a = (a .answer .number ≡ accepted → ⊥) → a .slot ≡ some r
-
-row-left : (r : Row) (d : List ℕ) → RowLeft r (rowUpdated r d)
-unfolding rowUpdated
-row-left r d = either (RowLeft r) (leb (length (keyed BLAKE2b (keyOf (r .params)) (r .bytes)) + length d) limit) _ _ (λ e z. absurd (z refl)) (λ e z. refl)
+row-left : (r : Row Params) (d : List ℕ) → (rowTaker .number r d ≡ accepted → ⊥) → rowTaker .next r d ≡ r
+row-left r d h = split (leb (length (keyed BLAKE2b (keyOf (r .params)) (r .bytes)) + length d) limit) refl
+  where
+    split : (b : Bool) → leb (length (keyed BLAKE2b (keyOf (r .params)) (r .bytes)) + length d) limit ≡ b → rowTaker .next r d ≡ r
+    split true e = absurd (h (rw e))
+    split false e = rw e
 
 table-steady : Steady table
-unfolding updatedAt isRow
 table-steady none d e h = absurd (false≢true e)
-table-steady (some r) d e h = row-left r d h
+table-steady (some r) d e h = ap some (row-left r d h)
 
 -- a refused call leaves every slot of the bank as it was
 pub refused-call-leaves : (b : Bank) (c : Call) → (told b c .answer .number ≡ accepted → ⊥) → told b c .slots ≡ b .slots
@@ -66,7 +67,7 @@ module _ (n most k : ℕ) (cs : List Call) where
   record-kept xs h = unnamed-kept slots n most slots-steady xs cs k h
 
   -- and its row
-  pub row-kept : (t : List (Option Row)) → Spared table n most k t cs → at table (after table n most t cs) k ≡ at table t k
+  pub row-kept : (t : List Entry) → Spared table n most k t cs → at table (after table n most t cs) k ≡ at table t k
   row-kept t h = unnamed-kept table n most table-steady t cs k h
 
 -- the calls that are kept are among those that were made

@@ -22,7 +22,7 @@ use Rattle.blake2b.specs.declared.state.StateAnswer.{StateAnswer}
 use Rattle.blake2b.specs.declared.state.CountAnswer.{CountAnswer}
 use Rattle.hash.proofs.Digests.{digest-of-hash}
 use Rattle.bank.specs.Rules.{placeFault, reply, fed, piece, opening, update, digest, count, close}
-use Rattle.bank.specs.Slots.{slotGood, slotUpdated, slotDigested, slotCounted, slots, slotAnswer, hashAnswer, countAnswer}
+use Rattle.bank.specs.Slots.{slotGood, slots, slotAnswer, hashAnswer, countAnswer}
 use Rattle.bank.specs.declared.piece.Piece.{Piece}
 use Rattle.bank.specs.declared.slot.Slot.{Slot}
 use Rattle.bank.specs.declared.slot.SlotAnswer.{SlotAnswer}
@@ -56,15 +56,15 @@ module _ (s : Slot) where
 
     pub open-updated : (d : List ℕ) {a : StateAnswer} → a ≡ state.updated (s .state) d
         → record { number = a .number; slot = record { «is_open» = true; state = a .state } } ≡ slotAnswer (reply slots s (update d))
-    unfolding reply slotUpdated
+    unfolding reply
     open-updated d f = rw (e, f)
 
     pub open-digest : {a : HashAnswer} → a ≡ state.finalized (s .state) → a ≡ hashAnswer (reply slots s digest .answer)
-    unfolding reply slotDigested
+    unfolding reply
     open-digest f = rw e (f ∙ ap (λ (h : Hash). record { number = state.finalized (s .state) .number; hash = h }) (record-of-digest (s .state)))
 
     pub open-count : {a : CountAnswer} → a ≡ state.counted (s .state) → a ≡ countAnswer (reply slots s count .answer)
-    unfolding reply slotCounted
+    unfolding reply
     open-count f = rw e f
 
     pub open-close : {z : State} → z ≡ state.zeroState → record { number = accepted; slot = record { «is_open» = false; state = z } } ≡ slotAnswer (reply slots s close)

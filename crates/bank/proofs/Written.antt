@@ -15,8 +15,9 @@ use Rattle.hash.specs.declared.LengthAnswer.{LengthAnswer}
 use Rattle.hash.specs.declared.HashAnswer.{HashAnswer}
 use Rattle.hash.proofs.Digests.{digest-of-hash}
 use Rattle.blake2b.proofs.Sizes.{digest-sized}
-use Rattle.bank.specs.Rules.{digest, digest-to, on, refusal, numbered, written, reply, at, fault, step}
-use Rattle.bank.specs.Slots.{slots, slot-limit, slotDigested, told, hashAnswer, lengthAnswer}
+use Rattle.members.specs.Row.{numbered}
+use Rattle.bank.specs.Rules.{digest, digest-to, on, refusal, written, reply, at, fault, step}
+use Rattle.bank.specs.Slots.{slots, slot-limit, told, hashAnswer, lengthAnswer}
 use Rattle.bank.specs.declared.bank.Bank.{Bank}
 use Rattle.bank.specs.declared.slot.Slot.{Slot}
 
@@ -35,7 +36,7 @@ reply-written s out = split (s .«is_open») refl
     split false e = rw e (sym (written-refused slot-closed out (λ z. omega arith)))
 
 reply-sized : (s : Slot) → reply slots s digest .answer .number ≡ accepted → isDigestLength (length (reply slots s digest .answer .bytes)) ≡ true
-unfolding reply slotDigested
+unfolding reply
 reply-sized s z = split (s .«is_open») refl
   where
     split : (b : Bool) → s .«is_open» ≡ b → isDigestLength (length (reply slots s digest .answer .bytes)) ≡ true

@@ -7,7 +7,8 @@ use Prim.Native.Nat.{ℕ}
 use lib.Dec.{eqb}
 use lib.ListN.{length, take}
 use Rattle.numbers.specs.Numbers.{accepted}
-use Rattle.bank.specs.Rules.{Call, on, update-many, Answer, Kind, step}
+use Rattle.members.specs.Row.{Answer}
+use Rattle.bank.specs.Rules.{Call, on, update-many, Kind, step}
 use Rattle.bank.specs.declared.piece.Piece.{Piece}
 
 -- some record is for the slot k

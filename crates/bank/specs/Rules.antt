@@ -1,11 +1,13 @@
 -- Document 01's rules of slots: what is asked of a bank and what it answers, over any number of slots, any limit of records in a batch and
 -- whatever a slot holds. Refusals stand in document 01's order. Assumes nothing.
-use mathlib.Core.Bool.{Bool, true, cond, _&&_}
+use mathlib.Core.Bool.{Bool, true, cond, not, _&&_}
 use mathlib.Core.List.{List, [], _∷_, _++_}
 use Prim.Native.Nat.{ℕ, suc}
 use lib.Dec.{ltb, leb, eqb}
 use lib.ListN.{length, getD, set, take, drop}
 use Rattle.numbers.specs.Numbers.{accepted, slot-number, slot-closed, piece-outside, batch-long, output-short, slot-open, bad-record, pieceOk}
+use Rattle.numbers.specs.Tests.{Test, test, tested, first}
+use Rattle.members.specs.Row.{Answer, numbered, Taker}
 use Rattle.blake2b.specs.Params.{inRange}
 use Rattle.blake2b.specs.declared.params.Params.{Params}
 use Rattle.bank.specs.declared.piece.Piece.{Piece}
@@ -25,16 +27,6 @@ pub data Call : Type 0 where
   on : ℕ → Ask → Call
   update-many : List Piece → ℕ → List ℕ → Call
 
-pub record Answer : Type 0 where
-  -- 0, or document 01's refusal
-  pub number : ℕ
-  -- of a refused batch: the first bad record's
-  pub index : ℕ
-  -- a count, or the length written
-  pub value : ℕ
-  -- a digest, or what an output holds after the call
-  pub bytes : List ℕ
-
 -- an answer and what the slot holds after it; an answer and what all slots hold
 pub record Reply (X : Type 0) : Type 0 where
   pub answer : Answer
@@ -43,10 +35,6 @@ pub record Reply (X : Type 0) : Type 0 where
 pub record Result (X : Type 0) : Type 0 where
   pub answer : Answer
   pub slots : List X
-
--- a number and zeros
-abbrev pub numbered : ℕ → Answer
-numbered n = record { number = n; index = 0; value = 0; bytes = [] }
 
 -- a refusal of what was asked: an output is as it was
 abbrev pub refusal : Ask → ℕ → Answer
@@ -61,25 +49,40 @@ refusal close n = numbered n
 unfoldable pub written : Answer → List ℕ → Answer
 written a out =
     cond (eqb (a .number) accepted)
-    (cond (leb (length (a .bytes)) (length out))
-    (record { number = accepted; index = 0; value = length (a .bytes); bytes = a .bytes ++ drop (length (a .bytes)) out })
-    (refusal (digest-to out) output-short))
+    (tested (test (leb (length (a .bytes)) (length out)) output-short ∷ [])
+    (record { number = accepted; index = 0; value = length (a .bytes); bytes = a .bytes ++ drop (length (a .bytes)) out }) (refusal (digest-to out)))
     (refusal (digest-to out) (a .number))
 
--- what a slot can hold: a record that stands for a closed slot, and what an open one makes of the calls
+-- what a slot can hold: what a closed one is, and what opening makes; whether one is open, and keeps the ranges of refusal 14; and what an open
+-- one makes of bytes, digests and counts
 pub record Kind (X : Type 0) : Type 0 where
   pub closed : X
-  pub isOpen : X → Bool
-  -- keeps the ranges of refusal 14
-  pub good : X → Bool
   pub opened : Params → X
-  pub updated : X → List ℕ → Reply X
-  pub digested : X → Answer
-  pub counted : X → Answer
+  pub isOpen : X → Bool
+  pub good : X → Bool
+  pub taker : Taker X (List ℕ)
+
+-- the taker of slots of which an open one holds what takes the calls
+abbrev pub slotTaker : {X Y : Type 0} → Taker Y (List ℕ) → (X → Y) → (Y → X) → Taker X (List ℕ)
+slotTaker t held holding = record {
+  number = λ x d. t .number (held x) d;
+  next = λ x d. holding (t .next (held x) d);
+  digested = λ x. t .digested (held x);
+  counted = λ x. t .counted (held x);
+}
+
+-- an open slot is not opened again, and a closed one is asked for nothing else: 13, 8
+abbrev pub openTests : Bool → Ask → List Test
+openTests is-open (opening p) = test (not is-open) slot-open ∷ []
+openTests is-open (update d) = test is-open slot-closed ∷ []
+openTests is-open digest = test is-open slot-closed ∷ []
+openTests is-open (digest-to out) = test is-open slot-closed ∷ []
+openTests is-open count = test is-open slot-closed ∷ []
+openTests is-open close = test is-open slot-closed ∷ []
 
 -- a record at a slot that is open or not, whose piece lies inside the data or not: 8, then 9
 unfoldable pub placeFault : Bool → Bool → ℕ
-placeFault is-open inside = cond is-open (cond inside accepted piece-outside) slot-closed
+placeFault is-open inside = first (test is-open slot-closed ∷ test inside piece-outside ∷ [])
 
 -- the bytes of a record
 unfoldable pub piece : Piece → List ℕ → List ℕ
@@ -99,21 +102,28 @@ goodAsk count = true
 goodAsk close = true
 
 module _ {X : Type 0} (kind : Kind X) where
-  -- one slot: 13 or 8, then what an open slot makes of it (6, 11)
+  -- bytes that come to an open slot: 6
+  abbrev pub updated : X → List ℕ → Reply X
+  updated x d = record { answer = numbered (kind .taker .number x d); slot = kind .taker .next x d }
+
+  -- what is done where it may be
+  abbrev pub done : X → Ask → Reply X
+  done x (opening p) = record { answer = numbered accepted; slot = kind .opened p }
+  done x (update d) = updated x d
+  done x digest = record { answer = kind .taker .digested x; slot = x }
+  done x (digest-to out) = record { answer = written (kind .taker .digested x) out; slot = x }
+  done x count = record { answer = kind .taker .counted x; slot = x }
+  done x close = record { answer = numbered accepted; slot = kind .closed }
+
+  -- one slot: 13 or 8, then what is done (6, 11)
   unfoldable pub reply : X → Ask → Reply X
-  reply x (opening p) = cond (kind .isOpen x) (record { answer = numbered slot-open; slot = x }) (record { answer = numbered accepted; slot = kind .opened p })
-  reply x (update d) = cond (kind .isOpen x) (kind .updated x d) (record { answer = numbered slot-closed; slot = x })
-  reply x digest = record { answer = cond (kind .isOpen x) (kind .digested x) (numbered slot-closed); slot = x }
-  reply x (digest-to out) =
-      record { answer = cond (kind .isOpen x) (written (kind .digested x) out) (refusal (digest-to out) slot-closed); slot = x }
-  reply x count = record { answer = cond (kind .isOpen x) (kind .counted x) (numbered slot-closed); slot = x }
-  reply x close = cond (kind .isOpen x) (record { answer = numbered accepted; slot = kind .closed }) (record { answer = numbered slot-closed; slot = x })
+  reply x ask = tested (openTests (kind .isOpen x) ask) (done x ask) (λ n. record { answer = refusal ask n; slot = x })
 
   -- one record of a batch, at its slot: 8, 9, then 6
   unfoldable pub fed : X → Piece → List ℕ → Reply X
   fed x p d =
       let f : ℕ = placeFault (kind .isOpen x) (pieceOk (p .start) (p .length) (length d)) in
-      cond (eqb f accepted) (kind .updated x (piece p d)) (record { answer = numbered f; slot = x })
+      cond (eqb f accepted) (updated x (piece p d)) (record { answer = numbered f; slot = x })
 
   -- the slot k
   abbrev pub at : List X → ℕ → X
@@ -123,29 +133,25 @@ module _ {X : Type 0} (kind : Kind X) where
   module _ (n : ℕ) where
     -- 14 on the slots and on parameters handed in, then 7
     unfoldable pub fault : List X → Bool → ℕ → ℕ
-    fault xs good k = cond (every (kind .good) xs && good) (cond (ltb k n) accepted slot-number) bad-record
+    fault xs good k = first (test (every (kind .good) xs && good) bad-record ∷ test (ltb k n) slot-number ∷ [])
 
     -- record by record, 7 and then what its slot answers; the first bad one decides, and all slots are as they were, which is xs
     unfoldable pub batch : List X → List X → ℕ → List Piece → List ℕ → Result X
     batch xs ys i [] d = record { answer = numbered accepted; slots = ys }
     batch xs ys i (p ∷ ps) d =
         let r : Reply X = fed (at ys (p .slot)) p d in
-        cond (ltb (p .slot) n)
-        (cond (eqb (r .answer .number) accepted)
-        (batch xs (set ys (p .slot) (r .slot)) (suc i) ps d)
-        (record { answer = record { number = r .answer .number; index = i; value = 0; bytes = [] }; slots = xs }))
-        (record { answer = record { number = slot-number; index = i; value = 0; bytes = [] }; slots = xs })
+        tested (test (ltb (p .slot) n) slot-number ∷ test (eqb (r .answer .number) accepted) (r .answer .number) ∷ [])
+        (batch xs (set ys (p .slot) (r .slot)) (suc i) ps d) (λ m. record { answer = record { number = m; index = i; value = 0; bytes = [] }; slots = xs })
 
-    -- a call on a bank where a batch has at most so many records
+    -- a call on a bank where a batch has at most so many records: on one slot 14 and 7, then what the slot replies; a batch 14, then 10
     unfoldable pub step : ℕ → List X → Call → Result X
     step most xs (on k ask) =
         let r : Reply X = reply (at xs k) ask in
         let f : ℕ = fault xs (goodAsk ask) k in
         cond (eqb f accepted) (record { answer = r .answer; slots = set xs k (r .slot) }) (record { answer = refusal ask f; slots = xs })
     step most xs (update-many ps used d) =
-        cond (every (kind .good) xs)
-        (cond (leb used most) (batch xs xs 0 (take used ps) d) (record { answer = numbered batch-long; slots = xs }))
-        (record { answer = numbered bad-record; slots = xs })
+        tested (test (every (kind .good) xs) bad-record ∷ test (leb used most) batch-long ∷ [])
+        (batch xs xs 0 (take used ps) d) (λ m. record { answer = numbered m; slots = xs })
 
     -- a history: the answers to calls in their order, and what the slots hold at the end
     unfoldable pub answers : ℕ → List X → List Call → List Answer

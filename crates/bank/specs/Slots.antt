@@ -1,16 +1,17 @@
 -- The bank's slots: a record of a state, and what the state's own calls make of it; and the answers of the bank's functions, read off a result.
 -- Assumes nothing.
 use mathlib.Core.Bool.{Bool, true, false, cond}
-use mathlib.Core.List.{List, []}
 use Prim.Native.Nat.{ℕ}
 use lib.ListN.{replicate}
-use Rattle.hash.specs.Hash.{hashOf, digestOf}
+use Rattle.members.specs.Row.{Answer}
+use Rattle.hash.specs.Hash.{hashOf}
 use Rattle.blake2b.specs.State.{stateInRange, zeroState, fresh}
-use Rattle.blake2b.specs.State as state
+use Rattle.blake2b.specs.Row.{stateTaker}
 use Rattle.hash.specs.declared.HashAnswer.{HashAnswer}
 use Rattle.hash.specs.declared.LengthAnswer.{LengthAnswer}
+use Rattle.blake2b.specs.declared.state.State.{State}
 use Rattle.blake2b.specs.declared.state.CountAnswer.{CountAnswer}
-use Rattle.bank.specs.Rules.{Answer, Reply, Result, Kind, Call, numbered, step}
+use Rattle.bank.specs.Rules.{Reply, Result, Kind, slotTaker, Call, step}
 use Rattle.bank.specs.declared.slot.Slot.{Slot}
 use Rattle.bank.specs.declared.slot.SlotAnswer.{SlotAnswer}
 use Rattle.bank.specs.declared.bank.Bank.{Bank}
@@ -23,26 +24,16 @@ closedSlot = record { «is_open» = false; state = zeroState }
 unfoldable pub slotGood : Slot → Bool
 slotGood s = cond (s .«is_open») (stateInRange (s .state)) true
 
-unfoldable pub slotUpdated : Slot → List ℕ → Reply Slot
-slotUpdated s d =
-    record { answer = numbered (state.updated (s .state) d .number); slot = record { «is_open» = true; state = state.updated (s .state) d .state } }
-
-unfoldable pub slotDigested : Slot → Answer
-slotDigested s =
-    record { number = state.finalized (s .state) .number; index = 0; value = 0; bytes = digestOf (state.finalized (s .state) .hash) }
-
-unfoldable pub slotCounted : Slot → Answer
-slotCounted s = record { number = state.counted (s .state) .number; index = 0; value = state.counted (s .state) .count; bytes = [] }
+abbrev pub openSlot : State → Slot
+openSlot s = record { «is_open» = true; state = s }
 
 abbrev pub slots : Kind Slot
 slots = record {
   closed = closedSlot;
+  opened = λ p. openSlot (fresh p);
   isOpen = λ s. s .«is_open»;
   good = slotGood;
-  opened = λ p. record { «is_open» = true; state = fresh p };
-  updated = slotUpdated;
-  digested = slotDigested;
-  counted = slotCounted;
+  taker = slotTaker stateTaker (λ s. s .state) openSlot;
 }
 
 -- document 01's numbers of slots and of records

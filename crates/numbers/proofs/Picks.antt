@@ -42,7 +42,8 @@ pub tested-ap : {A B : Type 0} (f : A → B) (ts : List Test) (ok : A) (bad : �
 tested-ap f [] ok bad = refl
 tested-ap f (t ∷ ts) ok bad = split (t .holds) (tested-ap f ts ok bad)
   where
-    split : (b : Bool) → f (tested ts ok bad) ≡ tested ts (f ok) (λ n. f (bad n)) → f (cond b (tested ts ok bad) (bad (t .refusal))) ≡ cond b (tested ts (f ok) (λ n. f (bad n))) (f (bad (t .refusal)))
+    split : (b : Bool) → f (tested ts ok bad) ≡ tested ts (f ok) (λ n. f (bad n))
+        → f (cond b (tested ts ok bad) (bad (t .refusal))) ≡ cond b (tested ts (f ok) (λ n. f (bad n))) (f (bad (t .refusal)))
     split true e = e
     split false e = refl
 
@@ -59,3 +60,14 @@ tested-keeps Q (t ∷ ts) ok bad f g = split (t .holds) refl (λ h. tested-keeps
     split : (b : Bool) → t .holds ≡ b → ((All ts → Q ok) → Q (tested ts ok bad)) → Q (cond b (tested ts ok bad) (bad (t .refusal)))
     split true e k = k (λ h. f (e, h))
     split false e k = g (t .refusal)
+
+-- two answers of the same tests, one through a function of the other
+pub tested-both : {A B : Type 0} (g : A → B) (ts : List Test) {u : B} {v : ℕ → B} {s : A} {w : ℕ → A} → (All ts → u ≡ g s) → ((n : ℕ) → v n ≡ g (w n))
+    → tested ts u v ≡ g (tested ts s w)
+tested-both g [] f h = f tt
+tested-both g (t ∷ ts) {u} {v} {s} {w} f h = split (t .holds) refl (λ k. tested-both g ts k h)
+  where
+    split : (b : Bool) → t .holds ≡ b → ((All ts → u ≡ g s) → tested ts u v ≡ g (tested ts s w))
+        → cond b (tested ts u v) (v (t .refusal)) ≡ g (cond b (tested ts s w) (w (t .refusal)))
+    split true e k = k (λ a. f (e, a))
+    split false e k = h (t .refusal)

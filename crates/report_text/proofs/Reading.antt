@@ -13,51 +13,43 @@ use Rattle.definitions.specs.Hash.{keyed, blake2}
 use Rattle.numbers.specs.Numbers.{accepted, total-over, limit}
 use Rattle.hash.specs.Hash.{digestOf}
 use Rattle.blake2b.specs.Params.{defaults}
-use Rattle.blake2b.specs.State.{pushed, stateInRange, fresh, updated, finalized, counted}
-use Rattle.members.specs.Row.{Answer}
-use Rattle.members.specs.Row as row
+use Rattle.members.specs.Row.{Answer, Row, row}
+use Rattle.blake2b.specs.State.{stateInRange, updated, finalized, counted}
+use Rattle.blake2b.specs.Row.{rowTaker}
+use Rattle.blake2b.specs.declared.params.Params.{Params}
 use Rattle.blake2b.specs.declared.state.State.{State}
 use Rattle.blake2b.specs.declared.state.StateAnswer.{StateAnswer}
 use Rattle.blake2b.proofs.Cleaned.{good-defaults}
 use Rattle.blake2b.proofs.Plain.{hash-plain, length-of-digest, plain-within}
-use Rattle.blake2b.proofs.Pushes.{sound-fresh}
-use Rattle.blake2b.proofs.Rows.{pushed-none, range-reached, says-digest, says-count, updated-accepted, updated-refused}
+use Rattle.blake2b.proofs.Rows.{stateOf, Reached, range-reached, says-number, says-next, says-digest, says-count, opened-state}
 use Rattle.report_text.specs.Lines.{fiveLines, unreadable}
 use Rattle.report_text.specs.Reads.{Read, piece, failure, afterReads, bytesOf, noneFailed, reported, printed}
 use Rattle.hash.specs.Output.{wrote, wroteOver}
 use Rattle.report_text.specs.Report.{begun, taken, linesOf, textAnswered, textOver}
 use Rattle.report_text.specs.declared.report.Report.{Report}
 
--- the state of some bytes, and a report that holds it
+-- the row of some bytes, and a report that holds its state
+abbrev rowOf : List ℕ → Row Params
+rowOf bs = row defaults bs
+
 abbrev reached : List ℕ → State
-reached bs = pushed (fresh defaults) bs
+reached bs = stateOf (rowOf bs)
 
 abbrev holding : List ℕ → Bool → Report
 holding bs readable = record { state = reached bs; readable = readable }
 
-nothing-reached : reached [] ≡ fresh defaults
-nothing-reached = pushed-none (fresh defaults) (sound-fresh defaults (good-defaults .clean .whole))
-
--- what an answer of a row tells
-abbrev digest-told : Answer → List ℕ
-digest-told (row.taken n) = []
-digest-told (row.digested n d) = d
-digest-told (row.counted n k) = []
-
-abbrev count-told : Answer → ℕ
-count-told (row.taken n) = 0
-count-told (row.digested n d) = 0
-count-told (row.counted n k) = k
-
 module _ (bs : List ℕ) (few : length bs ≤ limit) where
+  kept : Reached (rowOf bs)
+  kept = record { clean = good-defaults .clean; good = good-defaults .ranged; within = plain-within bs few }
+
   in-range : stateInRange (reached bs) ≡ true
-  in-range = range-reached defaults (good-defaults .clean) (good-defaults .ranged) bs (plain-within bs few)
+  in-range = range-reached (rowOf bs) kept
 
   digest-is : digestOf (finalized (reached bs) .hash) ≡ blake2 BLAKE2b 64 [] bs
-  digest-is = ap digest-told (says-digest defaults (good-defaults .clean) (good-defaults .ranged) bs (plain-within bs few)) ∙ hash-plain bs
+  digest-is = ap (λ (a : Answer). a .bytes) (says-digest (rowOf bs) kept) ∙ hash-plain bs
 
   count-is : counted (reached bs) .count ≡ length bs
-  count-is = ap count-told (says-count defaults (good-defaults .clean) (good-defaults .ranged) bs (plain-within bs few))
+  count-is = ap (λ (a : Answer). a .value) (says-count (rowOf bs) kept)
 
   length-is : length (digestOf (finalized (reached bs) .hash)) ≡ 64
   length-is = ap length digest-is ∙ length-of-digest bs
@@ -67,13 +59,16 @@ module _ (bs : List ℕ) (few : length bs ≤ limit) where
   lines-reached = λ i. fiveLines (length-is i) 0 (count-is i) (digest-is i)
 
   -- a piece that the state takes, and one that it does not
+  says : (a : List ℕ) → updated (reached bs) a ≡ record { number = rowTaker .number (rowOf bs) a; state = stateOf (rowTaker .next (rowOf bs) a) }
+  says a = λ i. record { number = says-number (rowOf bs) kept a i; state = says-next (rowOf bs) kept a i }
+
   accepts : (a : List ℕ) → leb (length bs + length a) limit ≡ true → updated (reached bs) a ≡ record { number = accepted; state = reached (bs ++ a) }
   unfolding keyed
-  accepts a e = updated-accepted defaults (good-defaults .clean) (good-defaults .ranged) bs (plain-within bs few) a e
+  accepts a e = says a ∙ rw e
 
   refuses : (a : List ℕ) → leb (length bs + length a) limit ≡ false → updated (reached bs) a ≡ record { number = total-over; state = reached bs }
   unfolding keyed
-  refuses a e = updated-refused defaults (good-defaults .clean) (good-defaults .ranged) bs (plain-within bs few) a e
+  refuses a e = says a ∙ rw e
 
   take-accepted : (w : Bool) (a : List ℕ) → leb (length bs + length a) limit ≡ true → taken (holding bs w) a ≡ holding (bs ++ a) w
   take-accepted w a e =
@@ -143,7 +138,9 @@ follows (failure ∷ xs) = after-failure xs (follows xs)
 
 from-begun : (xs : List Read) → Prints (afterReads begun xs) true [] xs
 unfolding Follows
-from-begun xs = subst (λ (s : State). Prints (afterReads (record { state = s; readable = true }) xs) true [] xs) nothing-reached (follows xs true [] (omega arith))
+from-begun xs =
+    subst (λ (s : State). Prints (afterReads (record { state = s; readable = true }) xs) true [] xs)
+    (opened-state defaults (good-defaults .clean)) (follows xs true [] (omega arith))
 
 -- the text of any reads
 pub text-of-reads : (xs : List Read) → linesOf (afterReads begun xs) ≡ printed xs

@@ -5,7 +5,7 @@ use mathlib.Core.Bool.{Bool, cond}
 use mathlib.Core.List.{List, [], _∷_, _++_}
 use lib.ListN.{length, take, drop}
 use lib.Dec.{leb}
-use Rattle.laws_words.specs.Bytes.{zeros}
+use Rattle.laws_words.specs.Bytes.{zeros, over}
 use Rattle.laws_blocks.specs.Chain.{spare, absorb}
 
 -- L is what a machine works on: the words of a hash, or of each leaf

@@ -1,7 +1,5 @@
 // The parameters: the defaults, a setter for each, and the words that a hash starts from.
 // A setter overwrites its whole field, so that nothing of an older value stays.
-use guts::padded;
-use guts::zero_block;
 use hash::OUTBYTES;
 use hash::is_digest_length;
 use numbers::ACCEPTED;
@@ -11,7 +9,9 @@ use numbers::KEY_LENGTH;
 use numbers::PERSONAL_LENGTH;
 use numbers::RECORD;
 use numbers::SALT_LENGTH;
+use portable::padded_block;
 use portable::parameter_words;
+use portable::zero_block;
 ghost use mathlib.Core.Path.{_≡_};
 ghost use mathlib.Core.Bool.{true};
 ghost use Prim.Native.Nat.{_≤_};
@@ -52,7 +52,7 @@ fn padded16(bytes: &[u8]) -> [u8; 16]
     requires { ⌜ length (now bytes) ≤ 16 ⌝ }
     ensures { λ r. ⌜ r ≡ pad 16 (now (bytes .entry)) ⌝ }
 {
-    let b = padded(bytes);
+    let b = padded_block(bytes);
     [
         b[0],
         b[1],
@@ -147,7 +147,7 @@ impl Params {
         if key.len() > Params::KEYBYTES {
             return answer(KEY_LENGTH, self);
         }
-        let block = padded(key);
+        let block = padded_block(key);
         let mut p = self;
         p.key_length = key.len() as u8;
         p.key_block = block;

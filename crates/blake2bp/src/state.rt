@@ -2,6 +2,7 @@
 // The buffer holds two rows of blocks: a row goes only once each leaf is known to get more.
 use crate::params::Params;
 use guts::offset_slice;
+use guts::store;
 use hash::Hash;
 use hash::HashAnswer;
 use hash::is_digest_length;
@@ -14,7 +15,6 @@ use leaves::finalize_root_words;
 use leaves::finish_leaves;
 use leaves::leaf_words;
 use leaves::root_words;
-use leaves::store;
 use numbers::ACCEPTED;
 use numbers::LIMIT;
 use numbers::RECORD;

@@ -28,4 +28,6 @@ returns-3 c =
     (c .answer3 .ensures ∙ (λ j. record { number = accepted; params = withFields p (length (now (a .key))) (c .before .padded-block .ensures j) (p .salt) (p .personal) (p .«last_node») })))
 
 pub key-spec : {M : Type 1} → statement M
-key-spec = tie.close (tie.spec (λ c κs. search needs) (λ c κs. search needs) returns (λ c κs. search needs) returns-2 (λ c κs. search needs) (λ c. search needs) (λ c κs. search needs) returns-3)
+key-spec =
+    tie.close
+    (tie.spec (λ c κs. search needs) (λ c κs. search needs) returns (λ c κs. search needs) returns-2 (λ c κs. search needs) (λ c. search needs) (λ c κs. search needs) returns-3)

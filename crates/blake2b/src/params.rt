@@ -1,7 +1,6 @@
 // The parameters: the defaults, a setter for each, and the words that a hash starts from.
 // A setter overwrites its whole field, so that nothing of an older value stays.
-use guts::padded;
-use guts::zero_block;
+use guts::store;
 use hash::OUTBYTES;
 use hash::is_digest_length;
 use numbers::ACCEPTED;
@@ -11,7 +10,9 @@ use numbers::KEY_LENGTH;
 use numbers::PERSONAL_LENGTH;
 use numbers::RECORD;
 use numbers::SALT_LENGTH;
+use portable::padded_block;
 use portable::parameter_words;
+use portable::zero_block;
 ghost use mathlib.Core.Path.{_≡_};
 ghost use mathlib.Core.Bool.{true};
 ghost use Prim.Native.Nat.{_≤_};
@@ -20,11 +21,13 @@ ghost use lib.ListN.{length};
 ghost use Rattle.definitions.specs.Words.{pad};
 ghost use Rattle.definitions.specs.Family.{BLAKE2b};
 ghost use Rattle.definitions.specs.Hash.{start};
+ghost use Rattle.laws_words.specs.Bytes.{zeros};
 ghost use Rattle.numbers.specs.Numbers.{accepted, digest-length, key-length, salt-length, personal-length, inner-length};
 ghost use mathlib.Core.List.{[], _∷_};
 ghost use Rattle.numbers.specs.Tests.{test};
 ghost use Rattle.hash.specs.Hash.{isDigestLength};
-ghost use Rattle.blake2b.specs.Params.{defaults, inRange, asked, answered, withNumber, withKey, withSalt, withPersonal, withLastNode, hash-length-at, fanout-at, max-depth-at, max-leaf-length-at, node-offset-at, node-depth-at, inner-hash-length-at};
+ghost use Rattle.blake2b.specs.Params.{defaults, inRange, asked, answered, withNumber, withKey, withSalt, withPersonal, withLastNode};
+ghost use Rattle.blake2b.specs.Params.{hash-length-at, fanout-at, max-depth-at, max-leaf-length-at, node-offset-at, node-depth-at, inner-hash-length-at};
 
 pub struct Params {
     pub(crate) hash_length: u8,
@@ -47,30 +50,20 @@ pub struct ParamsAnswer {
     pub params: Params,
 }
 
+fn zero_field() -> [u8; 16]
+    ensures { λ r. ⌜ r ≡ zeros 16 ⌝ }
+{
+    [0; 16]
+}
+
 // The bytes, of which there are at most sixteen, and zeros up to sixteen.
 fn padded16(bytes: &[u8]) -> [u8; 16]
     requires { ⌜ length (now bytes) ≤ 16 ⌝ }
     ensures { λ r. ⌜ r ≡ pad 16 (now (bytes .entry)) ⌝ }
 {
-    let b = padded(bytes);
-    [
-        b[0],
-        b[1],
-        b[2],
-        b[3],
-        b[4],
-        b[5],
-        b[6],
-        b[7],
-        b[8],
-        b[9],
-        b[10],
-        b[11],
-        b[12],
-        b[13],
-        b[14],
-        b[15],
-    ]
+    let mut field = zero_field();
+    store(&mut field, 0, bytes);
+    field
 }
 
 fn answer(number: u8, params: Params) -> ParamsAnswer
@@ -147,7 +140,7 @@ impl Params {
         if key.len() > Params::KEYBYTES {
             return answer(KEY_LENGTH, self);
         }
-        let block = padded(key);
+        let block = padded_block(key);
         let mut p = self;
         p.key_length = key.len() as u8;
         p.key_block = block;

@@ -5,7 +5,7 @@ use guts::Finalize;
 use guts::LastNode;
 use guts::Stride;
 use guts::offset_slice;
-use guts::zero_block;
+use guts::store;
 use hash::Hash;
 use hash::HashAnswer;
 use hash::is_digest_length;
@@ -15,11 +15,11 @@ use numbers::RECORD;
 use numbers::TOTAL;
 use portable::Compressed;
 use portable::compress1_loop;
+use portable::zero_block;
 ghost use mathlib.Core.Path.{_≡_};
 ghost use mathlib.Core.List.{_++_};
 ghost use Prim.Native.Nat.{_+_, _*_, _^_, _<_, _≤_};
 ghost use lib.ListN.{length};
-ghost use lib.Seq.{paste};
 ghost use Rattle.definitions.specs.Family.{BLAKE2b};
 ghost use Rattle.laws_blocks.specs.Chain.{spare, absorb};
 ghost use Rattle.laws_blocks.specs.Blocks.{onBytes};
@@ -73,21 +73,6 @@ fn range_of(hash_length: u8, buflen: usize, count: u64, is_keyed: bool) -> bool
         return 128 <= count + held;
     }
     true
-}
-
-// The bytes of input stored from an index on.
-fn stored(buf: [u8; 128], at: usize, input: &[u8]) -> [u8; 128]
-    requires { ⌜ at + length (now input) ≤ 128 ⌝ }
-    ensures { λ r. ⌜ r ≡ paste buf at (now (input .entry)) (length (now (input .entry))) ⌝ }
-{
-    let mut b = buf;
-    let mut i: usize = 0;
-    while i < input.len() {
-        let p = at + i;
-        b[p] = input[i];
-        i += 1;
-    }
-    b
 }
 
 // Whole blocks, none of them the last.
@@ -152,8 +137,8 @@ impl State {
         ensures { λ r. ⌜ r ≡ moved self (pending self ++ now (input .entry)) 0 ⌝ }
     {
         let at = self.buflen;
-        let b = self.buf;
-        let buf = stored(b, at, input);
+        let mut buf = self.buf;
+        store(&mut buf, at, input);
         let mut s = self;
         s.buf = buf;
         s.buflen = at + input.len();

@@ -13,7 +13,7 @@ use Rattle.definitions.specs.Words.{pad}
 use Rattle.definitions.specs.Family.{BLAKE2b}
 use Rattle.laws_words.specs.Bytes.{zeros}
 use Rattle.laws_states.specs.Leaves.{rowOf, leafStarts, rootStart}
-use Rattle.laws_states.proofs.Pastes.{pad-none}
+use Rattle.laws_words.proofs.Stores.{pad-none}
 use Rattle.laws_states.proofs.Trees.{row-some, row-none}
 use Rattle.members.specs.Member.{keyRow}
 use Rattle.members.proofs.Laws.{Begun}

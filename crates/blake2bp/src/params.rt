@@ -1,7 +1,7 @@
 // The parameters: a digest length and a key.
 // A setter overwrites its whole field, so that nothing of an older value stays.
+use guts::store;
 use hash::is_digest_length;
-use leaves::store;
 use numbers::ACCEPTED;
 use numbers::DIGEST_LENGTH;
 use numbers::KEY_LENGTH;

@@ -2,7 +2,7 @@
 // The buffer holds two rows of blocks: a row goes only once each leaf is known to get more.
 use crate::params::Params;
 use guts::offset_slice;
-use guts::padded;
+use guts::store;
 use hash::Hash;
 use hash::HashAnswer;
 use hash::is_digest_length;
@@ -15,11 +15,11 @@ use leaves::finalize_root_words;
 use leaves::finish_leaves;
 use leaves::leaf_words;
 use leaves::root_words;
-use leaves::store;
 use numbers::ACCEPTED;
 use numbers::LIMIT;
 use numbers::RECORD;
 use numbers::TOTAL;
+use portable::padded_block;
 ghost use mathlib.Core.Path.{_≡_};
 ghost use mathlib.Core.List.{_++_};
 ghost use Prim.Native.Nat.{_+_, _*_, _^_, _<_, _≤_};
@@ -386,7 +386,7 @@ impl Params {
         if self.key_length > 0 {
             let key = self.key;
             let n = self.key_length as usize;
-            let buf = key_row(padded(&key[0..n]));
+            let buf = key_row(padded_block(&key[0..n]));
             return State {
                 leaves,
                 root_words: root,

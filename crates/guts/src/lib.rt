@@ -1,12 +1,14 @@
-// Module 1, the helpers of guts.rs: what a run of the block loop is told, the words of a count, and the block at an offset.
-// A block is made ready, then handed back, and its facts are asked for: three calls for the Rust's one. Internal.
+// Module 1, the helpers of guts.rs: what a run of the block loop is told, the block at an offset, and bytes stored in a buffer.
+// A block is made ready, then handed back, and its facts are asked for: three calls for the Rust's one. Nothing here has a width:
+// a block is as long as its buffer. Internal.
+mod storing;
+
 ghost use mathlib.Core.Path.{_≡_};
-ghost use Prim.Native.Nat.{_/_, _%_, _^_, _≤_};
 ghost use lib.ListN.{length, drop};
-ghost use Rattle.definitions.specs.Words.{pad};
-ghost use Rattle.laws_words.specs.Bytes.{zeros};
 ghost use Rattle.laws_blocks.specs.Offsets.{paddedBuffer, finalBlock};
-ghost use Rattle.guts.specs.Guts.{finalizes, isLastNode, paddedBlockbytes, finalFacts};
+ghost use Rattle.guts.specs.Guts.{finalizes, isLastNode, finalFacts};
+pub use storing::clear;
+pub use storing::store;
 
 pub enum Finalize {
     Yes,
@@ -40,36 +42,12 @@ impl LastNode {
     }
 }
 
+// What lies between two blocks of a run.
 pub enum Stride {
-    // BLAKE2b: a block follows the other.
+    // Nothing: a block follows the other.
     Serial,
-    // BLAKE2bp: a leaf has each fourth block.
+    // The blocks of the other leaves.
     Parallel,
-}
-
-impl Stride {
-    pub fn padded_blockbytes(self) -> usize
-        ensures { λ r. ⌜ r ≡ paddedBlockbytes self ⌝ }
-    {
-        match self {
-            Stride::Serial => 128,
-            Stride::Parallel => 512,
-        }
-    }
-}
-
-// The two words of a count.
-pub fn count_low(count: u64) -> u64
-    ensures { λ r. ⌜ r ≡ count % 2 ^ 64 ⌝ }
-{
-    count
-}
-
-// A count of 64 bits has nothing in its high word.
-pub fn count_high(count: u64) -> u64
-    ensures { λ r. ⌜ r ≡ count / 2 ^ 64 ⌝ }
-{
-    0
 }
 
 // The input from the offset on: nothing where that is past the end.
@@ -83,46 +61,27 @@ pub fn offset_slice<'a>(input: &'a [u8], offset: usize) -> &'a [u8]
     &input[end..]
 }
 
-pub fn zero_block() -> [u8; 128]
-    ensures { λ r. ⌜ r ≡ zeros 128 ⌝ }
-{
-    [0u8; 128]
-}
-
-// The bytes, and zeros up to a block.
-pub fn padded(bytes: &[u8]) -> [u8; 128]
-    requires { ⌜ length (now bytes) ≤ 128 ⌝ }
-    ensures { λ r. ⌜ r ≡ pad 128 (now (bytes .entry)) ⌝ }
-{
-    let mut block = zero_block();
-    let mut i: usize = 0;
-    while i < bytes.len() {
-        block[i] = bytes[i];
-        i += 1;
-    }
-    block
-}
-
 // Makes the buffer ready for final_block: the bytes that are left at the offset and zeros, where a block is not left.
-pub fn pad_final_block(input: &[u8], offset: usize, buffer: &mut [u8; 128])
-    ensures { λ r. ⌜ now (buffer .exit) ≡ paddedBuffer 128 (now (input .entry)) offset (now (buffer .entry)) ⌝ }
+pub fn pad_final_block(input: &[u8], offset: usize, buffer: &mut [u8])
+    ensures { λ r. ⌜ now (buffer .exit) ≡ paddedBuffer (length (now (buffer .entry))) (now (input .entry)) offset (now (buffer .entry)) ⌝ }
 {
     let rest = offset_slice(input, offset);
-    if rest.len() < 128 {
-        let block = padded(rest);
-        *buffer = block;
+    if rest.len() < buffer.len() {
+        clear(buffer);
+        store(buffer, 0, rest);
     }
 }
 
-// The block at an offset: the caller's own 128 bytes, or the buffer that was padded for it.
+// The block at an offset: the caller's own bytes, or the buffer that was padded for it.
 pub fn final_block<'a>(input: &'a [u8], offset: usize, buffer: &'a [u8]) -> &'a [u8]
-    ensures { λ r. ⌜ now r ≡ finalBlock 128 (now (input .entry)) offset (now (buffer .entry)) ⌝ }
+    ensures { λ r. ⌜ now r ≡ finalBlock (length (now (buffer .entry))) (now (input .entry)) offset (now (buffer .entry)) ⌝ }
 {
     let rest = offset_slice(input, offset);
-    if rest.len() < 128 {
+    let n = buffer.len();
+    if rest.len() < n {
         return buffer;
     }
-    &rest[..128]
+    &rest[..n]
 }
 
 // Of the block at an offset: how many of its bytes are the input's, and whether the input ends before the next one.
@@ -131,19 +90,20 @@ pub struct FinalFacts {
     pub may_finalize: bool,
 }
 
-pub fn final_facts(input: &[u8], offset: usize, stride: Stride) -> FinalFacts
-    ensures { λ r. ⌜ r ≡ finalFacts (now (input .entry)) offset stride ⌝ }
+// A block has `block` bytes, and the next one starts `row` bytes behind its start.
+pub fn final_facts(input: &[u8], offset: usize, block: usize, row: usize) -> FinalFacts
+    ensures { λ r. ⌜ r ≡ finalFacts block row (now (input .entry)) offset ⌝ }
 {
     let rest = offset_slice(input, offset);
     let n = rest.len();
-    if n < 128 {
+    if n < block {
         return FinalFacts {
             len: n,
-            may_finalize: true,
+            may_finalize: n <= row,
         };
     }
     FinalFacts {
-        len: 128,
-        may_finalize: n <= stride.padded_blockbytes(),
+        len: block,
+        may_finalize: n <= row,
     }
 }

@@ -3,7 +3,6 @@
 use mathlib.Core.Path.{_≡_, sym, ap, _∙_}
 use mathlib.Core.List.{List, _++_}
 use Prim.Native.Nat.{ℕ, zero, suc, _+_, _-_, _*_, _≤_}
-use native.Mathlib.Nat.{sub-zero, zero-sub}
 use native.Mathlib.Omega.{arith}
 use lib.ListN.{length, drop, replicate, length-append}
 use lib.Seq.{drop-append-add}
@@ -13,11 +12,7 @@ use Rattle.laws_blocks.specs.Chain.{spare}
 use Rattle.laws_states.specs.Buffer.{Machine, Held, behind, pending, moved, pushed}
 use Rattle.laws_states.proofs.Buffers.{Lawful, pushed-tight}
 use Rattle.laws_blocks.proofs.Rows.{spare-is}
-
-pub drop-zeros : (n k : ℕ) → drop {A = ℕ} k (replicate n 0) ≡ replicate (n - k) 0
-drop-zeros n zero = rw sub-zero
-drop-zeros zero (suc k) = rw zero-sub
-drop-zeros (suc n) (suc k) = let e : suc n - suc k ≡ n - k = omega arith in rw e (drop-zeros n k)
+use Rattle.laws_words.proofs.Stores.{drop-zeros}
 
 -- over what was padded, more bytes are padded again
 over-padded : (n : ℕ) (f a : List ℕ) → over (f ++ a) (pad n f) ≡ pad n (f ++ a)

@@ -16,7 +16,7 @@ use Rattle.laws_states.specs.Deal.{each}
 use Rattle.laws_states.specs.Leaves.{leafStarts}
 use Rattle.laws_states.proofs.Deals.{each-turn}
 use Rattle.laws_states.proofs.Images.{through-image}
-use Rattle.laws_states.proofs.Pastes.{paste-padded}
+use Rattle.laws_words.proofs.Stores.{paste-padded}
 use Rattle.leaves.specs.Leaves.{leafOf, wordsOf, stateOf, onLeaf}
 use Rattle.leaves.specs.declared.leaves.Leaf.{Leaf}
 

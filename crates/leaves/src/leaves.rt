@@ -1,11 +1,11 @@
 // The four leaves: blocks are dealt to them in turn, and at the end the root hashes their whole states.
 // A leaf runs through one call of the block loop, at the parallel stride.
 use crate::counts::LeafCount;
-use crate::storing::store;
 use guts::Finalize;
 use guts::LastNode;
 use guts::Stride;
 use guts::offset_slice;
+use guts::store;
 use hash::Hash;
 use hash::HashAnswer;
 use portable::compress1_loop;

@@ -3,7 +3,6 @@
 mod counts;
 mod leaves;
 mod starts;
-mod storing;
 
 pub use counts::LeafCount;
 pub use counts::MessageCount;
@@ -15,4 +14,3 @@ pub use leaves::finalize_root_words;
 pub use leaves::finish_leaves;
 pub use starts::leaf_words;
 pub use starts::root_words;
-pub use storing::store;

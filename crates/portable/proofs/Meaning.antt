@@ -11,8 +11,8 @@ use Rattle.definitions.specs.Hash.{Parameters, start, calls, compress, stateByt
 use Rattle.definitions.specs.Tree.{share}
 use Rattle.laws_blocks.specs.Blocks.{throughBlocks}
 use Rattle.laws_blocks.proofs.Calls.{untruncated-through, share-calls-through}
-use Rattle.guts.specs.Guts.{paddedBlockbytes}
 use Rattle.guts.specs.declared.Stride.the-variants.{Serial, Parallel}
+use Rattle.portable.specs.Strides.{paddedBlockbytes}
 
 pub serial-run : (p : Parameters) (node : Bool) (d : List ℕ) {words : List ℕ}
     → words ≡ throughBlocks BLAKE2b (paddedBlockbytes Serial) (start BLAKE2b p) 0 true node d → stateBytes BLAKE2b words ≡ untruncated BLAKE2b p node d

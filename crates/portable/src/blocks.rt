@@ -1,15 +1,17 @@
 // The loop over the blocks of an input, serial or at a leaf's stride.
 // Its one contract covers both strides, finalizing or not.
+use crate::widths::BLOCKBYTES;
+use crate::widths::count_high;
+use crate::widths::count_low;
+use crate::widths::padded_blockbytes;
+use crate::widths::zero_block;
 use compression::compress_block;
 use guts::Finalize;
 use guts::LastNode;
 use guts::Stride;
-use guts::count_high;
-use guts::count_low;
 use guts::final_block;
 use guts::final_facts;
 use guts::pad_final_block;
-use guts::zero_block;
 ghost use mathlib.Core.Path.{_≡_};
 ghost use mathlib.Core.Bool.{_&&_};
 ghost use Prim.Native.Nat.{_+_, _*_, _^_, _<_};
@@ -17,7 +19,8 @@ ghost use lib.ListN.{length};
 ghost use Rattle.definitions.specs.Family.{BLAKE2b};
 ghost use Rattle.laws_blocks.specs.Chain.{spare};
 ghost use Rattle.laws_blocks.specs.Blocks.{throughBlocks};
-ghost use Rattle.guts.specs.Guts.{finalizes, isLastNode, paddedBlockbytes};
+ghost use Rattle.guts.specs.Guts.{finalizes, isLastNode};
+ghost use Rattle.portable.specs.Strides.{paddedBlockbytes};
 
 // What a run of the loop hands back.
 pub struct Compressed {
@@ -55,7 +58,7 @@ pub fn compress1_loop(
     requires { ⌜ count + length (now input) < 2 ^ 64 ⌝ }
     ensures { λ r. ⌜ r .words ≡ throughBlocks BLAKE2b (paddedBlockbytes stride) words count (finalizes finalize) (finalizes finalize && isLastNode «last_node») (now (input .entry)) ⌝ }
 {
-    let row = stride.padded_blockbytes();
+    let row = padded_blockbytes(stride);
     let mut buf = zero_block();
     pad_final_block(input, final_offset(input.len(), row), &mut buf);
     let fin_last_block = finalize.yes();
@@ -64,7 +67,7 @@ pub fn compress1_loop(
     let mut local_count = count;
     let mut offset: usize = 0;
     loop {
-        let facts = final_facts(input, offset, stride);
+        let facts = final_facts(input, offset, BLOCKBYTES, row);
         let last = facts.may_finalize;
         local_count += facts.len as u64;
         let block = final_block(input, offset, &buf);

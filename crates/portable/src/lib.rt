@@ -2,7 +2,11 @@
 // Internal: the layers above meet what its functions require.
 mod blocks;
 mod parameters;
+mod widths;
 
 pub use blocks::Compressed;
 pub use blocks::compress1_loop;
 pub use parameters::parameter_words;
+pub use widths::BLOCKBYTES;
+pub use widths::padded_block;
+pub use widths::zero_block;

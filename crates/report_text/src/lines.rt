@@ -1,5 +1,6 @@
 // Lines of text, written behind one another into a lent buffer that has room for them.
 // A function takes the place to write at, and answers the place behind what it wrote.
+use guts::store;
 use io::decimal;
 ghost use mathlib.Core.Path.{_≡_};
 ghost use Prim.Native.Nat.{_+_, _≤_};
@@ -11,13 +12,8 @@ pub(crate) fn put(out: &mut [u8], at: usize, text: &[u8]) -> usize
     requires { ⌜ at + length (now text) ≤ length (now out) ⌝ }
     ensures { λ r. ⌜ (r ≡ at + length (now (text .entry))) × (now (out .exit) ≡ paste (now (out .entry)) at (now (text .entry)) (length (now (text .entry)))) ⌝ }
 {
-    let mut i: usize = 0;
-    while i < text.len() {
-        let p = at + i;
-        out[p] = text[i];
-        i += 1;
-    }
-    at + i
+    store(out, at, text);
+    at + text.len()
 }
 
 pub(crate) fn put_line(out: &mut [u8], at: usize, name: &[u8], value: &[u8]) -> usize

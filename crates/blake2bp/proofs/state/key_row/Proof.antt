@@ -7,7 +7,8 @@ use borrow.Author.Needs.{needs}
 use lib.ListN.{length}
 use Rattle.definitions.specs.Words.{pad}
 use Rattle.laws_states.specs.Leaves.{rowOf}
-use Rattle.laws_states.proofs.Pastes.{pad-none, row-more}
+use Rattle.laws_words.proofs.Stores.{pad-none}
+use Rattle.laws_states.proofs.Pastes.{row-more}
 use Rattle.laws_states.proofs.Trees.{length-row}
 use Rattle.leaves.proofs.Turns.{filled-turn}
 use Rattle.blake2bp.proofs.state.key_row.Statement.{statement}

@@ -9,7 +9,8 @@ use lib.ListN.{length, take, length-append, length-take}
 use lib.Seq.{take-all}
 use Rattle.definitions.specs.Words.{pad}
 use Rattle.laws_words.proofs.Bytes.{pad-whole}
-use Rattle.laws_states.proofs.Pastes.{pad-none, flat-more}
+use Rattle.laws_words.proofs.Stores.{pad-none}
+use Rattle.laws_states.proofs.Pastes.{flat-more}
 use Rattle.leaves.specs.Leaves.{stateOf}
 use Rattle.leaves.proofs.Turns.{filled-turn}
 use Rattle.leaves.proofs.leaves.leaf_bytes.Statement.{statement}

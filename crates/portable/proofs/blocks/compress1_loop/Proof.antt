@@ -19,12 +19,11 @@ use Rattle.laws_blocks.specs.Blocks.{onBytes, throughBlocks}
 use Rattle.definitions.proofs.Lengths.{length-pad}
 use Rattle.laws_words.proofs.Bytes.{length-zeros}
 use Rattle.laws_blocks.proofs.Chains.{absorb-step, through-step}
-use Rattle.guts.specs.Guts.{paddedBlockbytes, finalFacts, finalizes, isLastNode}
-use Rattle.guts.specs.declared.Stride.{Stride}
+use Rattle.guts.specs.Guts.{finalFacts, finalizes, isLastNode}
 use Rattle.guts.specs.declared.FinalFacts.{FinalFacts}
 use Rattle.laws_blocks.proofs.Calls.{compressed-on-bytes}
 use Rattle.laws_blocks.proofs.Offsets.{last-is, last-not, row-more, block-at, length-block, length-buffer, short-block, whole-block, count-fits}
-use Rattle.guts.proofs.Facts.{row-wide}
+use Rattle.portable.proofs.Strides.{row-wide}
 use Rattle.portable.proofs.blocks.compress1_loop.Statement.{statement}
 use Rattle.portable.proofs.blocks.compress1_loop.Tie as tie
 
@@ -37,25 +36,22 @@ record Reached (d : List ℕ) (row t : ℕ) (w₀ w : List ℕ) (n o : ℕ) : Ty
   absorbed : w ≡ absorb 128 (onBytes BLAKE2b) row w₀ t d k
 
 abbrev Inv-loop : tie.InvT-loop
-Inv-loop input count stride row buf fin-last-block fin-last-node local-words₀ local-count₀ offset₀ local-words local-count offset =
+Inv-loop input count row buf fin-last-block fin-last-node local-words₀ local-count₀ offset₀ local-words local-count offset =
     Reached input row count local-words₀ local-words local-count offset
 
 abbrev μ-loop : tie.MeasureT-loop
-μ-loop input count stride row buf fin-last-block fin-last-node local-words₀ local-count₀ offset₀ local-words local-count offset =
+μ-loop input count row buf fin-last-block fin-last-node local-words₀ local-count₀ offset₀ local-words local-count offset =
     length input - offset
 
 block-some : 0 < 128
 block-some = omega arith
 
 -- what final_facts says at block k
-facts-len : (d : List ℕ) (s : Stride) (row k : ℕ) {o : ℕ} {r : FinalFacts} → 128 ≤ row → r ≡ finalFacts d o s → o ≡ row * k → r .len ≡ length (blockAt 128 row d k)
-unfolding finalFacts
-facts-len d s row k w e h = rw h at (ap (λ (r : FinalFacts). r .len) e) ∙ length-block 128 block-some d row w k
+facts-len : (d : List ℕ) (row k : ℕ) {o : ℕ} {r : FinalFacts} → 128 ≤ row → r ≡ finalFacts 128 row d o → o ≡ row * k → r .len ≡ length (blockAt 128 row d k)
+facts-len d row k w e h = rw h at (ap (λ (r : FinalFacts). r .len) e) ∙ length-block 128 block-some d row w k
 
-facts-last : (d : List ℕ) (s : Stride) (row k : ℕ) {o : ℕ} {r : FinalFacts} → row ≡ paddedBlockbytes s → r ≡ finalFacts d o s → o ≡ row * k
-    → r .«may_finalize» ≡ leb (length (drop (row * k) d)) row
-unfolding finalFacts
-facts-last d s row k g e h = rw h at (ap (λ (r : FinalFacts). r .«may_finalize») e) ∙ ap (leb (length (drop (row * k) d))) (sym g)
+facts-last : (d : List ℕ) (row k : ℕ) {o : ℕ} {r : FinalFacts} → r ≡ finalFacts 128 row d o → o ≡ row * k → r .«may_finalize» ≡ leb (length (drop (row * k) d)) row
+facts-last d row k e h = rw h at (ap (λ (r : FinalFacts). r .«may_finalize») e)
 
 block-is : (d : List ℕ) (row k : ℕ) (z : List ℕ) {o e : ℕ} {b x : List ℕ} → 128 ≤ row → k ≤ spare row 0 (length d) → o ≡ row * k → e ≡ row * spare row 0 (length d)
     → b ≡ paddedBuffer 128 d e z → x ≡ finalBlock 128 d o b → x ≡ pad 128 (blockAt 128 row d k)
@@ -80,12 +76,21 @@ below-as p q = omega arith
 more-fits : (o row x n : ℕ) → o ≡ x → x + row < n → n < 2 ^ 64 → o + row < 2 ^ 64
 more-fits o row x n e h f = omega arith
 
--- the paths to what is known at the loop's head: the entry, the row, the input, the block
+-- the paths to what is known at the loop's head: the entry, the row, the buffer before and after it was padded, the input, the block
 abbrev begun : tie.At-loop Inv-loop μ-loop → tie.Start Inv-loop μ-loop
-begun l = l .before .before .before .before .before .before .before .before .before .before
+begun l = l .before .before .before .before .before .before .before .before .before .before .before
 
 abbrev rowed : tie.At-loop Inv-loop μ-loop → tie.After-padded-blockbytes Inv-loop μ-loop
-rowed l = l .before .before .before .before .before .before .before .before
+rowed l = l .before .before .before .before .before .before .before .before .before
+
+abbrev padded : tie.At-loop Inv-loop μ-loop → tie.After-pad-final-block Inv-loop μ-loop
+padded l = l .before .before .before .before .before
+
+abbrev zero : tie.At-loop Inv-loop μ-loop → List ℕ
+zero l = padded l .before .before .before .zero-block .result
+
+abbrev buffer : tie.At-loop Inv-loop μ-loop → List ℕ
+buffer l = padded l .pad-final-block .last .1 .1 .0
 
 abbrev row : tie.At-loop Inv-loop μ-loop → ℕ
 row l = rowed l .padded-blockbytes .result
@@ -109,20 +114,31 @@ wide l = rw (rowed l .padded-blockbytes .ensures) (row-wide (begun l .args .stri
 len-is : (c : tie.After-final-facts Inv-loop μ-loop) → c .final-facts .result .len ≡ length (block (c .before))
 len-is c =
     let l = c .before in
-    facts-len (input l) (begun l .args .stride) (row l) (l .loop .inv .k) (wide l) (c .final-facts .ensures) (l .loop .inv .offset)
+    facts-len (input l) (row l) (l .loop .inv .k) (wide l) (c .final-facts .ensures) (l .loop .inv .offset)
 
 last-at : (c : tie.After-final-facts Inv-loop μ-loop)
     → c .final-facts .result .«may_finalize» ≡ leb (length (drop (row (c .before) * c .before .loop .inv .k) (input (c .before)))) (row (c .before))
 last-at c =
     let l = c .before in
-    facts-last (input l) (begun l .args .stride) (row l) (l .loop .inv .k) (rowed l .padded-blockbytes .ensures) (c .final-facts .ensures) (l .loop .inv .offset)
+    facts-last (input l) (row l) (l .loop .inv .k) (c .final-facts .ensures) (l .loop .inv .offset)
+
+zero-long : (l : tie.At-loop Inv-loop μ-loop) → length (zero l) ≡ 128
+zero-long l = ap length (padded l .before .before .before .zero-block .ensures) ∙ length-zeros 128
+
+buffer-is : (l : tie.At-loop Inv-loop μ-loop) → buffer l ≡ paddedBuffer 128 (input l) (padded l .before .before .final-offset .result) (zero l)
+buffer-is l =
+    let p = padded l in
+    p .pad-final-block .ensures ∙ ap (λ (n : ℕ). paddedBuffer n (input l) (p .before .before .final-offset .result) (zero l)) (zero-long l)
+
+buffer-long : (l : tie.At-loop Inv-loop μ-loop) → length (buffer l) ≡ 128
+buffer-long l = ap length (buffer-is l) ∙ length-buffer 128 (input l) (padded l .before .before .final-offset .result) (zero l) (zero-long l)
 
 block-of : (c : tie.After-final-block Inv-loop μ-loop) → now (c .final-block .result) ≡ pad 128 (block (c .before .before .before))
 block-of c =
     let l = c .before .before .before in
-    let p = l .before .before .before .before in
-    block-is (input l) (row l) (l .loop .inv .k) _ (wide l) (l .loop .inv .there) (l .loop .inv .offset)
-    (p .before .before .final-offset .ensures) (p .pad-final-block .ensures) (c .final-block .ensures)
+    block-is (input l) (row l) (l .loop .inv .k) (zero l) (wide l) (l .loop .inv .there) (l .loop .inv .offset)
+    (padded l .before .before .final-offset .ensures) (buffer-is l)
+    (c .final-block .ensures ∙ ap (λ (n : ℕ). finalBlock n (input l) (l .loop .offset) (buffer l)) (buffer-long l))
 
 -- the compression at block k, with the flags that it gets
 compressed : (c : tie.After-compress-block Inv-loop μ-loop) (q last node : Bool) → faced c .final-facts .result .«may_finalize» ≡ q
@@ -160,6 +176,9 @@ zero-block-requires c κs = search needs
 final-offset-requires : tie.Need-final-offset-requires Inv-loop μ-loop
 final-offset-requires c κs = let w = row-wide (c .before .before .before .args .stride) in rw (c .before .padded-blockbytes .ensures) (omega arith)
 
+slice-aggregate-pad-final-block : tie.Need-slice-aggregate-pad-final-block Inv-loop μ-loop
+slice-aggregate-pad-final-block c = search needs
+
 pad-final-block-requires : tie.Need-pad-final-block-requires Inv-loop μ-loop
 pad-final-block-requires c κs = search needs
 
@@ -189,11 +208,7 @@ add-local-count c =
     }
 
 slice-aggregate-final-block : tie.Need-slice-aggregate-final-block Inv-loop μ-loop
-slice-aggregate-final-block c =
-    let l = c .before .before in
-    let p = l .before .before .before .before in
-    let z = p .before .before .before .zero-block in
-    sym (ap length (p .pad-final-block .ensures) ∙ length-buffer 128 (input l) (p .before .before .final-offset .result) (z .result) (ap length (z .ensures) ∙ length-zeros 128))
+slice-aggregate-final-block c = sym (buffer-long (c .before .before))
 
 final-block-requires : tie.Need-final-block-requires Inv-loop μ-loop
 final-block-requires c κs = search needs
@@ -265,6 +280,7 @@ compress1-loop-spec =
     padded-blockbytes-requires
     zero-block-requires
     final-offset-requires
+    slice-aggregate-pad-final-block
     pad-final-block-requires
     yes-requires
     yes-requires-2

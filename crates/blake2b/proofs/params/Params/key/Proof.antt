@@ -25,7 +25,9 @@ returns-3 c =
     let a = i .before .before .before .args in
     let p = a .self in
     passed _ _ _ (i .before .in-range .ensures) (i .if1 .left) (holds _ _ _ (le-leb (length (now (a .key))) 64 (c .before .before .if2 .left))
-    (c .answer3 .ensures ∙ (λ j. record { number = accepted; params = withFields p (length (now (a .key))) (c .before .padded .ensures j) (p .salt) (p .personal) (p .«last_node») })))
+    (c .answer3 .ensures ∙ (λ j. record { number = accepted; params = withFields p (length (now (a .key))) (c .before .padded-block .ensures j) (p .salt) (p .personal) (p .«last_node») })))
 
 pub key-spec : {M : Type 1} → statement M
-key-spec = tie.close (tie.spec (λ c κs. search needs) (λ c κs. search needs) returns (λ c κs. search needs) returns-2 (λ c κs. search needs) (λ c. search needs) (λ c κs. search needs) returns-3)
+key-spec =
+    tie.close
+    (tie.spec (λ c κs. search needs) (λ c κs. search needs) returns (λ c κs. search needs) returns-2 (λ c κs. search needs) (λ c. search needs) (λ c κs. search needs) returns-3)

@@ -13,10 +13,13 @@ use Rattle.blake2b.proofs.state.State.fill_buf.Tie as tie
 sized : (c : tie.Start) → length (c .args .self .buf) ≡ 128
 sized c = search needs
 
+store-requires : tie.Need-store-requires
+store-requires c κs = let l = sized (c .before .before .before) in omega arith
+
 returns : tie.Need-returns
 returns c =
-    let s = c .before .before .before in
-    filled member laws (s .args .self) (record { sized = sized s; held = omega arith }) (s .args .input .now) (c .stored .ensures)
+    let s = c .before .before .before .before .before in
+    filled member laws (s .args .self) (record { sized = sized s; held = omega arith }) (s .args .input .now) (c .before .store .ensures)
 
 pub fill-buf-spec : {M : Type 1} → statement M
-fill-buf-spec = tie.close (tie.spec (λ c κs. search needs) (λ c. search needs) returns)
+fill-buf-spec = tie.close (tie.spec (λ c. search needs) store-requires (λ c. search needs) returns)

@@ -12,8 +12,8 @@ use Rattle.blake2bp.proofs.params.Params.with_params.Tie as tie
 whole : (c : tie.Start) → length (c .args .self .key) ≡ 64
 whole c = search needs
 
-part-padded-end : tie.Need-part-padded-end
-part-padded-end c = let l = whole (c .before .before .before .before .before .before .before) in omega arith
+part-padded-block-end : tie.Need-part-padded-block-end
+part-padded-block-end c = let l = whole (c .before .before .before .before .before .before .before) in omega arith
 
 returns : tie.Need-returns
 returns c =
@@ -22,7 +22,7 @@ returns c =
     let l = r .before in
     let s = l .before in
     let p = s .args .self in
-    fresh-keyed p (whole s) (s .pre) (l .leaf-words .ensures) (r .root-words .ensures) (i .if1 .taken) (rw (sub-zero (p .«key_length»)) at (c .before .padded .ensures)) (c .key-row .ensures)
+    fresh-keyed p (whole s) (s .pre) (l .leaf-words .ensures) (r .root-words .ensures) (i .if1 .taken) (rw (sub-zero (p .«key_length»)) at (c .before .padded-block .ensures)) (c .key-row .ensures)
 
 returns-2 : tie.Need-returns-2
 returns-2 c =
@@ -41,7 +41,7 @@ with-params-spec =
     (λ c. search needs)
     (λ c. search needs)
     (λ c. search needs)
-    part-padded-end
+    part-padded-block-end
     (λ c κs. search needs)
     (λ c κs. search needs)
     returns

@@ -1,4 +1,4 @@
--- `leaves::storing::store` meets its contract. The loop's invariant: the first i bytes are stored.
+-- `guts::storing::store` meets its contract. The loop's invariant: the first i bytes are stored.
 -- Assumes nothing.
 use mathlib.Core.Path.{_≡_, refl}
 use Prim.Native.Nat.{_≤_, _<_, _-_, _+_}
@@ -8,8 +8,8 @@ use borrow.Author.Needs.{needs}
 use denote.Ref.{now}
 use lib.ListN.{length, length-set}
 use lib.Seq.{paste, paste-zero, paste-suc}
-use Rattle.leaves.proofs.storing.store.Statement.{statement}
-use Rattle.leaves.proofs.storing.store.Tie as tie
+use Rattle.guts.proofs.storing.store.Statement.{statement}
+use Rattle.guts.proofs.storing.store.Tie as tie
 
 abbrev Inv-loop : tie.InvT-loop
 Inv-loop buf₀ at input i₀ buf i = (i ≤ length input) × (length buf ≡ length buf₀) × (buf ≡ paste buf₀ at input i)
@@ -24,8 +24,11 @@ loop-again : tie.Need-loop-again Inv-loop μ-loop
 loop-again c =
     let l = c .before .before .loop in
     let a = c .before .before .before .args in
-    let room : a .at + l .i < length (now (a .buf)) = omega arith in
-    (omega arith, simp length-set (l .inv .1), rw (l .inv .2, add-one) (paste-suc (now (a .buf)) (a .at) (now (a .input)) (l .i) 0 room (omega arith)))
+    let room : a .at + l .i < length (now (a .buf)) = omega arith in (
+      omega arith,
+      simp length-set (l .inv .1),
+      rw (l .inv .2, add-one) (paste-suc (now (a .buf)) (a .at) (now (a .input)) (l .i) 0 room (omega arith)),
+    )
 
 returns : tie.Need-returns Inv-loop μ-loop
 returns c =

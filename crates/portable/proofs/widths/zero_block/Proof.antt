@@ -1,9 +1,9 @@
--- `guts::zero_block` meets its contract.
+-- `portable::widths::zero_block` meets its contract.
 -- Assumes nothing.
 use mathlib.Core.Path.{refl}
 use Rattle.laws_words.specs.Bytes.{zeros}
-use Rattle.guts.proofs.zero_block.Statement.{statement}
-use Rattle.guts.proofs.zero_block.Tie as tie
+use Rattle.portable.proofs.widths.zero_block.Statement.{statement}
+use Rattle.portable.proofs.widths.zero_block.Tie as tie
 
 returns : tie.Need-returns
 unfolding zeros

@@ -4,6 +4,6 @@ pub mod OneShot
 pub mod Plain
 pub mod Pushes
 pub mod Rows
-pub mod Sizes
+pub mod Lengths
 pub mod States
 pub mod Unique

@@ -23,7 +23,7 @@ use Rattle.blake2b.specs.declared.state.StateAnswer.{StateAnswer}
 use Rattle.blake2b.specs.declared.state.CountAnswer.{CountAnswer}
 use Rattle.hash.proofs.Digests.{digest-length-bounds, hash-in-range, length-hex, length-digest, length-known, answer-fits, over-accepted}
 use Rattle.members.proofs.Ranges.{in-range}
-use Rattle.blake2b.proofs.Sizes.{length-closed-digest}
+use Rattle.blake2b.proofs.Lengths.{length-closed-digest}
 use Rattle.report_text.specs.Ascii.{ascii}
 use Rattle.report_text.specs.Lines.{decimal, line, lengthLines, fiveLines, unreadable, Appends}
 use Rattle.hash.specs.Output.{wrote, wroteOver}

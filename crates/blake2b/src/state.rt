@@ -8,7 +8,7 @@ use guts::offset_slice;
 use guts::store;
 use hash::Hash;
 use hash::HashAnswer;
-use hash::is_digest_length;
+use members::in_bounds;
 use numbers::ACCEPTED;
 use numbers::LIMIT;
 use numbers::RECORD;
@@ -49,6 +49,9 @@ pub struct CountAnswer {
     pub count: u64,
 }
 
+// What a key adds to the bytes of a total.
+const KEY_BLOCK: u64 = 128;
+
 fn last_node_of(yes: bool) -> LastNode
     ensures { λ r. ⌜ r ≡ lastNodeOf yes ⌝ }
 {
@@ -59,20 +62,16 @@ fn last_node_of(yes: bool) -> LastNode
 fn range_of(hash_length: u8, buflen: usize, count: u64, is_keyed: bool) -> bool
     ensures { λ r. ⌜ r ≡ rangeOf «hash_length» buflen count «is_keyed» ⌝ }
 {
-    if !is_digest_length(hash_length as usize) {
-        return false;
-    }
-    if buflen > 128 {
-        return false;
-    }
-    let held = buflen as u64;
-    if held > LIMIT - count {
-        return false;
-    }
-    if is_keyed {
-        return 128 <= count + held;
-    }
-    true
+    in_bounds(
+        Params::OUTBYTES,
+        Params::BLOCKBYTES,
+        1,
+        KEY_BLOCK,
+        hash_length,
+        buflen,
+        count,
+        is_keyed,
+    )
 }
 
 // Whole blocks, none of them the last.
@@ -296,7 +295,7 @@ impl State {
         if self.is_keyed {
             return CountAnswer {
                 number: ACCEPTED,
-                count: all - 128,
+                count: all - KEY_BLOCK,
             };
         }
         CountAnswer {

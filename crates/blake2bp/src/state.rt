@@ -5,7 +5,6 @@ use guts::offset_slice;
 use guts::store;
 use hash::Hash;
 use hash::HashAnswer;
-use hash::is_digest_length;
 use leaves::DEGREE;
 use leaves::Leaf;
 use leaves::LeafCount;
@@ -15,6 +14,7 @@ use leaves::finalize_root_words;
 use leaves::finish_leaves;
 use leaves::leaf_words;
 use leaves::root_words;
+use members::in_bounds;
 use numbers::ACCEPTED;
 use numbers::LIMIT;
 use numbers::RECORD;
@@ -77,24 +77,16 @@ const KEY_ROW: u64 = 512;
 fn range_of(hash_length: u8, buf_len: usize, count: LeafCount, is_keyed: bool) -> bool
     ensures { λ r. ⌜ r ≡ rangeOf «hash_length» «buf_len» (count .0) «is_keyed» ⌝ }
 {
-    if !is_digest_length(hash_length as usize) {
-        return false;
-    }
-    if buf_len > BUFFER {
-        return false;
-    }
-    if count.0 > LIMIT / 4 {
-        return false;
-    }
-    let gone = 4 * count.0;
-    let held = buf_len as u64;
-    if held > LIMIT - gone {
-        return false;
-    }
-    if is_keyed {
-        return KEY_ROW <= gone + held;
-    }
-    true
+    in_bounds(
+        Params::OUTBYTES,
+        BUFFER,
+        Params::DEGREE as u64,
+        KEY_ROW,
+        hash_length,
+        buf_len,
+        count.0,
+        is_keyed,
+    )
 }
 
 fn zero_buffer() -> [u8; BUFFER]

@@ -1,2 +1,5 @@
 // What each member of the family is to its callers, once for all: it is in specs/ and proofs/.
-// This crate has no running code.
+// The one running code is the test of a state's ranges, which the members share.
+mod bounds;
+
+pub use bounds::in_bounds;

@@ -15,6 +15,7 @@ use Rattle.laws_states.specs.Buffer.{joined}
 use Rattle.laws_states.proofs.Buffers.{Sound}
 use Rattle.laws_states.proofs.Buffers as buffers
 use Rattle.numbers.specs.Numbers.{accepted, total-over, limit}
+use Rattle.numbers.proofs.Limits.{wide}
 use Rattle.members.specs.Row.{Call, answers, digested, counted, Row, row}
 use Rattle.members.specs.Member as calls
 use Rattle.members.proofs.Alike.{Alike, alike-answers}
@@ -148,7 +149,7 @@ module _ (r : Row Params) (reached : Reached r) where
       record { clean = record { whole = reached .clean .whole; filled = reached .clean .filled }; good = reached .good; within = reached .within }
 
 pub opened-reached : (p : Params) → Clean p → inRange p ≡ true → Reached (row p [])
-opened-reached p clean good = let f = front-short p (clean .whole) in record { clean = clean; good = good; within = omega arith }
+opened-reached p clean good = let f = front-short p (clean .whole) in record { clean = clean; good = good; within = omega (arith, wide) }
 
 pub opened-state : (p : Params) → Clean p → stateOf (row p []) ≡ fresh p
 opened-state p clean = pushed-none (fresh p) (sound-fresh p (clean .whole))

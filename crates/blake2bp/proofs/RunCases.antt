@@ -79,11 +79,11 @@ empty = record {
 
 module _ (a : List ℕ) where
   pub one-of-896 : length a ≡ 896 → Shows 896 0 (next (fresh defaults) a)
-  unfolding gone spare
+  unfolding gone spare limit
   one-of-896 e = shows 896 0 (next (fresh defaults) a) (more 0 0 896 (fresh defaults) a empty e (omega arith) (omega arith)) (omega arith) (omega arith)
 
   pub one-of-897 : length a ≡ 897 → Shows 385 128 (next (fresh defaults) a)
-  unfolding gone spare
+  unfolding gone spare limit
   one-of-897 e = shows 385 128 (next (fresh defaults) a) (more 0 0 897 (fresh defaults) a empty e (omega arith) (omega arith)) (omega arith) (omega arith)
 
 module _ (a b c : List ℕ) (first : length a ≡ 512) (second : length b ≡ 512) where
@@ -94,21 +94,23 @@ module _ (a b c : List ℕ) (first : length a ≡ 512) (second : length b ≡ 51
   two = next one b
 
   both : Holds 1024 0 two
-  unfolding gone spare
+  unfolding gone spare limit
   both = more 512 0 512 one b (more 0 0 512 (fresh defaults) a empty first (omega arith) (omega arith)) second (omega arith) (omega arith)
 
   pub two-of-512 : Shows 1024 0 two
+
+  unfolding limit
   two-of-512 = shows 1024 0 two both (omega arith) (omega arith)
 
   pub then-384 : length c ≡ 384 → Shows 896 128 (next two c)
-  unfolding gone spare
+  unfolding gone spare limit
   then-384 e = shows 896 128 (next two c) (more 1024 0 384 two c both e (omega arith) (omega arith)) (omega arith) (omega arith)
 
   pub then-385 : length c ≡ 385 → Shows 385 256 (next two c)
-  unfolding gone spare
+  unfolding gone spare limit
   then-385 e = shows 385 256 (next two c) (more 1024 0 385 two c both e (omega arith) (omega arith)) (omega arith) (omega arith)
 
   -- the same 1,024 bytes at once
   pub at-once : Shows 512 128 (next (fresh defaults) (a ++ b))
-  unfolding gone spare
+  unfolding gone spare limit
   at-once = shows 512 128 (next (fresh defaults) (a ++ b)) (more 0 0 1024 (fresh defaults) (a ++ b) empty (length-append a b ∙ (λ i. first i + second i)) (omega arith) (omega arith)) (omega arith) (omega arith)

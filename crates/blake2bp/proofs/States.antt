@@ -8,6 +8,7 @@ use Rattle.laws_states.proofs.Buffers.{Lawful}
 use Rattle.laws_states.proofs.Lifts.{Store}
 use Rattle.laws_states.proofs.Deals.{parallel-lawful}
 use Rattle.numbers.specs.Numbers.{accepted}
+use Rattle.numbers.proofs.Limits.{wide}
 use Rattle.members.specs.Row.{digested}
 use Rattle.members.proofs.Laws.{Laws}
 use Rattle.members.proofs.Promises.{Faithful}
@@ -28,7 +29,7 @@ laws = record {
   lawful = lawful;
   room = refl;
   whole = refl;
-  key-fits = omega arith;
+  key-fits = omega (arith, wide);
   key-held = omega arith;
   core-holding = λ s h. refl;
   holding-holding = λ s h k. refl;

@@ -64,8 +64,8 @@ slot-open = 13
 abbrev pub bad-record : ℕ
 bad-record = 14
 
--- message bytes and key block bytes together are at most this
-abbrev pub limit : ℕ
+-- message bytes and key block bytes together are at most this; shut, so that no proof goes by its digits
+unfoldable pub limit : ℕ
 limit = 2 ^ 64 - 1
 
 -- whether a piece lies inside data of n bytes: it starts in front of their end, and is no longer than what is left

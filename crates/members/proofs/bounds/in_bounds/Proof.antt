@@ -39,6 +39,7 @@ returns-2 c =
     range-overfull (bounds s) (a .hash-length) (a .buflen) (a .count) (a .is-keyed) (d .is-length .ensures) (c .before .if1 .left) (c .if2 .taken)
 
 returns-3 : tie.Need-returns-3
+unfolding limit
 returns-3 c =
     let i = c .before in
     let d = i .before .before in
@@ -49,15 +50,19 @@ returns-3 c =
 
 -- what came and was counted keeps the limit
 counted : (c : tie.Else3) → let a = c .before .before .before .before .args in a .unit * a .count ≤ limit
+unfolding limit
 counted c = let s = c .before .before .before .before in within limit (s .args .unit) (s .args .count) (s .pre) (c .if3 .left)
 
 mul-gone : tie.Need-mul-gone
+unfolding limit
 mul-gone c = let h = counted c in record { fits = omega arith }
 
 sub-if4 : tie.Need-sub-if4
+unfolding limit
 sub-if4 c = counted c
 
 returns-4 : tie.Need-returns-4
+unfolding limit
 returns-4 c =
     let i = c .before .before in
     let d = i .before .before in
@@ -68,6 +73,7 @@ returns-4 c =
 
 -- all but the last test were passed
 total-kept : (c : tie.Else4) → let s = c .before .before .before .before .before in totalOf (bounds s) (s .args .count) (s .args .buflen) ≤ limit
+unfolding limit
 total-kept c = let h = counted (c .before) in omega (arith, c .if4 .left)
 
 last-test : (c : tie.Else4) → let s = c .before .before .before .before .before in let a = s .args in
@@ -80,6 +86,7 @@ last-test c =
     range-last (bounds s) (a .hash-length) (a .buflen) (a .count) (a .is-keyed) (d .is-length .ensures) (i .before .if1 .left) (i .if2 .left) (total-kept c)
 
 add-result : tie.Need-add-result
+unfolding limit
 add-result c = let h = total-kept (c .before) in record { fits = omega arith }
 
 returns-5 : tie.Need-returns-5

@@ -6,6 +6,7 @@ use mathlib.Core.List.{List}
 use Prim.Native.Nat.{ℕ}
 use native.Mathlib.Omega.{arith}
 use lib.ListN.{length, take, length-take}
+use Rattle.numbers.specs.Numbers.{limit}
 use Rattle.laws_states.specs.Buffer.{pending}
 use Rattle.hash.proofs.Digests.{digest-length-is, made-hash}
 use Rattle.members.proofs.Ranges.{Kept, kept}
@@ -48,6 +49,8 @@ slice-aggregate-compress1-loop c =
     simp length-take (omega (arith, r .held))
 
 compress1-loop-requires : tie.Need-compress1-loop-requires
+
+unfolding limit
 compress1-loop-requires c κs =
     let i = c .before .before .before .before in
     let l = sized (i .before .before) in

@@ -36,10 +36,12 @@ unfolding updated
 returns c = refused _ _ _ (c .before .range-of .ensures) (c .if1 .taken) refl
 
 sub-left-2 : tie.Need-sub-left-2
+
+unfolding limit
 sub-left-2 c = let r = ranged (c .before) in omega (arith, r .within)
 
 returns-2 : tie.Need-returns-2
-unfolding updated
+unfolding updated limit
 returns-2 c =
     let i = c .before .before in
     let a = begun i .args in
@@ -51,6 +53,7 @@ sub-if3 c = let r = ranged (c .before .before) in omega (arith, r .held)
 
 -- and the total stays within its limit
 within : (c : tie.Else2) → total (begun (c .before .before) .args .self) + length (begun (c .before .before) .args .input .now) ≤ limit
+unfolding limit
 within c = let r = ranged (c .before .before) in omega (arith, r .within, c .if2 .left)
 
 -- so every byte is taken

@@ -21,6 +21,8 @@ whole : (c : tie.Start) → length (c .args .self .key) ≡ 64
 whole c = search needs
 
 few : (c : tie.Start) → length (c .args .input .now) ≤ limit
+
+unfolding limit
 few c = search needs
 
 abbrev begun : tie.Else1 → tie.Start

@@ -5,6 +5,7 @@ use mathlib.Core.List.{List, map}
 use native.Mathlib.Nat.{sub-zero}
 use native.Mathlib.Omega.{arith}
 use lib.ListN.{length, take, length-take}
+use Rattle.numbers.specs.Numbers.{limit}
 use Rattle.laws_states.specs.Buffer.{pending}
 use Rattle.hash.proofs.Digests.{digest-length-is, made-hash}
 use Rattle.members.proofs.Ranges.{Kept, kept}
@@ -40,6 +41,8 @@ part-finish-leaves-end c =
     omega (arith, ranged i .held)
 
 finish-leaves-requires : tie.Need-finish-leaves-requires
+
+unfolding limit
 finish-leaves-requires c κs =
     let i = c .before .before .before .before in
     let l = sized (begun i) in

@@ -49,7 +49,7 @@ module _ (w : Work) (n : ℕ) where
       (p .0, leb-true (w .count + n) limit (p .1))
 
 key-bytes-short : (p : Params) → keyBytes p ≤ limit
-unfolding keyBytes
+unfolding keyBytes limit
 key-bytes-short p = split (leb 1 (p .«key_length»))
   where
     split : (b : Bool) → cond b 128 0 ≤ limit

@@ -29,7 +29,7 @@ unfolding unreadable line
 length-unreadable = refl
 
 length-reported : (m : List ℕ) → length m ≤ limit → length (reported m) ≤ 203
-unfolding fiveLines
+unfolding fiveLines limit
 length-reported m few =
     let d = blake2 BLAKE2b 64 [] m in
     let count = line (ascii "count") (decimal (length m)) in

@@ -1,11 +1,14 @@
 -- `job::start::has_room` meets its contract.
 -- Assumes nothing.
+use Rattle.numbers.specs.Numbers.{limit}
 use Rattle.job.proofs.Works.{room-with-key}
 use borrow.Author.Needs.{needs}
 use Rattle.job.proofs.start.has_room.Statement.{statement}
 use Rattle.job.proofs.start.has_room.Tie as tie
 
 returns : tie.Need-returns
+
+unfolding limit
 returns c = let a = c .before .args in room-with-key (a .params) (a .length) (c .key-bytes .ensures)
 
 pub has-room-spec : {M : Type 1} → statement M

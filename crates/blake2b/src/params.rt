@@ -16,7 +16,7 @@ use portable::zero_block;
 ghost use mathlib.Core.Path.{_≡_};
 ghost use mathlib.Core.Bool.{true};
 ghost use Prim.Native.Nat.{_≤_};
-ghost use lib.Dec.{leb};
+ghost use lib.Dec.{leb, eqb};
 ghost use lib.ListN.{length};
 ghost use Rattle.definitions.specs.Words.{pad};
 ghost use Rattle.definitions.specs.Family.{BLAKE2b};
@@ -66,12 +66,6 @@ fn padded16(bytes: &[u8]) -> [u8; 16]
     field
 }
 
-fn answer(number: u8, params: Params) -> ParamsAnswer
-    ensures { λ r. ⌜ r ≡ record { number = number; params = params } ⌝ }
-{
-    ParamsAnswer { number, params }
-}
-
 impl Params {
     pub const OUTBYTES: usize = OUTBYTES;
 
@@ -116,145 +110,134 @@ impl Params {
         self.inner_hash_length as usize <= Params::OUTBYTES
     }
 
+    // What a setter answers: the changed parameters or, where these are bad or what was given is, these with the refusal.
+    fn answer(self, refusal: u8, changed: Params) -> ParamsAnswer
+        ensures { λ r. ⌜ r ≡ answered self (test (eqb refusal accepted) refusal ∷ []) changed ⌝ }
+    {
+        if !self.in_range() {
+            return ParamsAnswer {
+                number: RECORD,
+                params: self,
+            };
+        }
+        if refusal != ACCEPTED {
+            return ParamsAnswer {
+                number: refusal,
+                params: self,
+            };
+        }
+        ParamsAnswer {
+            number: ACCEPTED,
+            params: changed,
+        }
+    }
+
     pub fn hash_length(self, length: usize) -> ParamsAnswer
         ensures { λ r. ⌜ r ≡ answered self (test (isDigestLength length) digest-length ∷ []) (withNumber hash-length-at length self) ⌝ }
     {
-        if !self.in_range() {
-            return answer(RECORD, self);
-        }
         if !is_digest_length(length) {
-            return answer(DIGEST_LENGTH, self);
+            return self.answer(DIGEST_LENGTH, self);
         }
         let mut p = self;
         p.hash_length = length as u8;
-        answer(ACCEPTED, p)
+        self.answer(ACCEPTED, p)
     }
 
     // A key, which an empty one takes away.
     pub fn key(self, key: &[u8]) -> ParamsAnswer
         ensures { λ r. ⌜ r ≡ answered self (test (leb (length (now (key .entry))) 64) key-length ∷ []) (withKey (now (key .entry)) self) ⌝ }
     {
-        if !self.in_range() {
-            return answer(RECORD, self);
-        }
         if key.len() > Params::KEYBYTES {
-            return answer(KEY_LENGTH, self);
+            return self.answer(KEY_LENGTH, self);
         }
         let block = padded_block(key);
         let mut p = self;
         p.key_length = key.len() as u8;
         p.key_block = block;
-        answer(ACCEPTED, p)
+        self.answer(ACCEPTED, p)
     }
 
     pub fn salt(self, salt: &[u8]) -> ParamsAnswer
         ensures { λ r. ⌜ r ≡ answered self (test (leb (length (now (salt .entry))) 16) salt-length ∷ []) (withSalt (now (salt .entry)) self) ⌝ }
     {
-        if !self.in_range() {
-            return answer(RECORD, self);
-        }
         if salt.len() > Params::SALTBYTES {
-            return answer(SALT_LENGTH, self);
+            return self.answer(SALT_LENGTH, self);
         }
         let field = padded16(salt);
         let mut p = self;
         p.salt = field;
-        answer(ACCEPTED, p)
+        self.answer(ACCEPTED, p)
     }
 
     pub fn personal(self, personalization: &[u8]) -> ParamsAnswer
         ensures { λ r. ⌜ r ≡ answered self (test (leb (length (now (personalization .entry))) 16) personal-length ∷ []) (withPersonal (now (personalization .entry)) self) ⌝ }
     {
-        if !self.in_range() {
-            return answer(RECORD, self);
-        }
         if personalization.len() > Params::PERSONALBYTES {
-            return answer(PERSONAL_LENGTH, self);
+            return self.answer(PERSONAL_LENGTH, self);
         }
         let field = padded16(personalization);
         let mut p = self;
         p.personal = field;
-        answer(ACCEPTED, p)
+        self.answer(ACCEPTED, p)
     }
 
     pub fn fanout(self, fanout: u8) -> ParamsAnswer
         ensures { λ r. ⌜ r ≡ answered self [] (withNumber fanout-at fanout self) ⌝ }
     {
-        if !self.in_range() {
-            return answer(RECORD, self);
-        }
         let mut p = self;
         p.fanout = fanout;
-        answer(ACCEPTED, p)
+        self.answer(ACCEPTED, p)
     }
 
     pub fn max_depth(self, depth: u8) -> ParamsAnswer
         ensures { λ r. ⌜ r ≡ answered self [] (withNumber max-depth-at depth self) ⌝ }
     {
-        if !self.in_range() {
-            return answer(RECORD, self);
-        }
         let mut p = self;
         p.max_depth = depth;
-        answer(ACCEPTED, p)
+        self.answer(ACCEPTED, p)
     }
 
     pub fn max_leaf_length(self, length: u32) -> ParamsAnswer
         ensures { λ r. ⌜ r ≡ answered self [] (withNumber max-leaf-length-at length self) ⌝ }
     {
-        if !self.in_range() {
-            return answer(RECORD, self);
-        }
         let mut p = self;
         p.max_leaf_length = length;
-        answer(ACCEPTED, p)
+        self.answer(ACCEPTED, p)
     }
 
     pub fn node_offset(self, offset: u64) -> ParamsAnswer
         ensures { λ r. ⌜ r ≡ answered self [] (withNumber node-offset-at offset self) ⌝ }
     {
-        if !self.in_range() {
-            return answer(RECORD, self);
-        }
         let mut p = self;
         p.node_offset = offset;
-        answer(ACCEPTED, p)
+        self.answer(ACCEPTED, p)
     }
 
     pub fn node_depth(self, depth: u8) -> ParamsAnswer
         ensures { λ r. ⌜ r ≡ answered self [] (withNumber node-depth-at depth self) ⌝ }
     {
-        if !self.in_range() {
-            return answer(RECORD, self);
-        }
         let mut p = self;
         p.node_depth = depth;
-        answer(ACCEPTED, p)
+        self.answer(ACCEPTED, p)
     }
 
     pub fn inner_hash_length(self, length: usize) -> ParamsAnswer
         ensures { λ r. ⌜ r ≡ answered self (test (leb length 64) inner-length ∷ []) (withNumber inner-hash-length-at length self) ⌝ }
     {
-        if !self.in_range() {
-            return answer(RECORD, self);
-        }
         if length > Params::OUTBYTES {
-            return answer(INNER_LENGTH, self);
+            return self.answer(INNER_LENGTH, self);
         }
         let mut p = self;
         p.inner_hash_length = length as u8;
-        answer(ACCEPTED, p)
+        self.answer(ACCEPTED, p)
     }
 
     pub fn last_node(self, last_node: bool) -> ParamsAnswer
         ensures { λ r. ⌜ r ≡ answered self [] (withLastNode «last_node» self) ⌝ }
     {
-        if !self.in_range() {
-            return answer(RECORD, self);
-        }
         let mut p = self;
         p.last_node = last_node;
-        answer(ACCEPTED, p)
+        self.answer(ACCEPTED, p)
     }
 
     // What the layers above read of the parameters.

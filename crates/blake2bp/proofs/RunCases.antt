@@ -98,7 +98,6 @@ module _ (a b c : List ℕ) (first : length a ≡ 512) (second : length b ≡ 51
   both = more 512 0 512 one b (more 0 0 512 (fresh defaults) a empty first (omega arith) (omega arith)) second (omega arith) (omega arith)
 
   pub two-of-512 : Shows 1024 0 two
-
   unfolding limit
   two-of-512 = shows 1024 0 two both (omega arith) (omega arith)
 

@@ -42,6 +42,7 @@ module _ (w : Work) (m : List ℕ) {good : Bool} (e : good ≡ workInRange w (le
 
   module _ (h : not good ≡ false) where
     pub total-fits : w .count + length m < 2 ^ 64
+    unfolding limit
     total-fits = let f = in-range w (length m) (sym e ∙ not-false good h) .1 in omega arith
 
     taken : {v : Work} → v ≡ runOn m w → record { number = accepted; work = v } ≡ ranWork w m

@@ -20,7 +20,6 @@ use Rattle.exports.proofs.sumpillow_state.Statement.{statement}
 use Rattle.exports.proofs.sumpillow_state.Tie as tie
 
 few : (c : tie.Start) → length (c .args .input .now) ≤ limit
-
 unfolding limit
 few c = search needs
 

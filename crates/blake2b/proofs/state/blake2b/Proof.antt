@@ -14,7 +14,6 @@ use Rattle.blake2b.proofs.state.blake2b.Statement.{statement}
 use Rattle.blake2b.proofs.state.blake2b.Tie as tie
 
 few : (c : tie.Start) → length (c .args .input .now) ≤ limit
-
 unfolding limit
 few c = search needs
 

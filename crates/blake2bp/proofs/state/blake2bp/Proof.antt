@@ -14,7 +14,6 @@ use Rattle.blake2bp.proofs.state.blake2bp.Statement.{statement}
 use Rattle.blake2bp.proofs.state.blake2bp.Tie as tie
 
 few : (c : tie.Start) → length (c .args .input .now) ≤ limit
-
 unfolding limit
 few c = search needs
 

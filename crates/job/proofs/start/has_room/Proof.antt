@@ -7,7 +7,6 @@ use Rattle.job.proofs.start.has_room.Statement.{statement}
 use Rattle.job.proofs.start.has_room.Tie as tie
 
 returns : tie.Need-returns
-
 unfolding limit
 returns c = let a = c .before .args in room-with-key (a .params) (a .length) (c .key-bytes .ensures)
 

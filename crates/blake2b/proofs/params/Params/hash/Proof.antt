@@ -19,7 +19,6 @@ whole : (c : tie.Start) → length (c .args .self .«key_block») ≡ 128
 whole c = search needs
 
 few : (c : tie.Start) → length (c .args .input .now) ≤ limit
-
 unfolding limit
 few c = search needs
 

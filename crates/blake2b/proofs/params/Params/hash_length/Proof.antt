@@ -1,34 +1,28 @@
 -- `blake2b::params::Params::hash_length` meets its contract.
 -- Assumes nothing.
 use mathlib.Core.Path.{sym, _∙_}
+use borrow.Author.Needs.{needs}
 use borrow.Author.Tests.{not-true, not-false}
 use native.Mathlib.Omega.{arith}
 use Rattle.hash.proofs.Digests.{digest-length-bounds}
-use Rattle.numbers.proofs.Picks.{passed, refused, holds, fails}
-use borrow.Author.Needs.{needs}
 use Rattle.blake2b.proofs.params.Params.hash_length.Statement.{statement}
 use Rattle.blake2b.proofs.params.Params.hash_length.Tie as tie
 
 returns : tie.Need-returns
-returns c = refused _ _ _ (c .before .before .in-range .ensures) (c .before .if1 .taken) (c .answer .ensures)
-
-returns-2 : tie.Need-returns-2
-returns-2 c =
+returns c =
     let d = c .before .before in
-    let i = d .before in
-    passed _ _ _ (i .before .in-range .ensures) (i .if1 .left) (fails _ _ _ (sym (d .is-digest-length .ensures) ∙ not-true (d .is-digest-length .result) (c .before .if2 .taken)) (c .answer2 .ensures))
+    rw (sym (d .is-digest-length .ensures) ∙ not-true (d .is-digest-length .result) (c .before .if1 .taken)) (c .answer .ensures)
 
 cast-p : tie.Need-cast-p
 cast-p c =
     let d = c .before in
-    let b = digest-length-bounds (d .before .before .before .args .length) (sym (d .is-digest-length .ensures) ∙ not-false (d .is-digest-length .result) (c .if2 .left)) in
+    let b = digest-length-bounds (d .before .args .length) (sym (d .is-digest-length .ensures) ∙ not-false (d .is-digest-length .result) (c .if1 .left)) in
     omega arith
 
-returns-3 : tie.Need-returns-3
-returns-3 c =
+returns-2 : tie.Need-returns-2
+returns-2 c =
     let d = c .before .before in
-    let i = d .before in
-    passed _ _ _ (i .before .in-range .ensures) (i .if1 .left) (holds _ _ _ (sym (d .is-digest-length .ensures) ∙ not-false (d .is-digest-length .result) (c .before .if2 .left)) (c .answer3 .ensures))
+    rw (sym (d .is-digest-length .ensures) ∙ not-false (d .is-digest-length .result) (c .before .if1 .left)) (c .answer2 .ensures)
 
 pub hash-length-spec : {M : Type 1} → statement M
-hash-length-spec = tie.close (tie.spec (λ c κs. search needs) (λ c κs. search needs) returns (λ c κs. search needs) (λ c κs. search needs) returns-2 cast-p (λ c κs. search needs) returns-3)
+hash-length-spec = tie.close (tie.spec (λ c κs. search needs) (λ c κs. search needs) returns cast-p (λ c κs. search needs) returns-2)

@@ -49,7 +49,6 @@ slice-aggregate-compress1-loop c =
     simp length-take (omega (arith, r .held))
 
 compress1-loop-requires : tie.Need-compress1-loop-requires
-
 unfolding limit
 compress1-loop-requires c κs =
     let i = c .before .before .before .before in

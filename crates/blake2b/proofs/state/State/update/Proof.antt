@@ -36,7 +36,6 @@ unfolding updated
 returns c = refused _ _ _ (c .before .range-of .ensures) (c .if1 .taken) refl
 
 sub-left-2 : tie.Need-sub-left-2
-
 unfolding limit
 sub-left-2 c = let r = ranged (c .before) in omega (arith, r .within)
 

@@ -21,7 +21,6 @@ whole : (c : tie.Start) → length (c .args .self .key) ≡ 64
 whole c = search needs
 
 few : (c : tie.Start) → length (c .args .input .now) ≤ limit
-
 unfolding limit
 few c = search needs
 

@@ -41,7 +41,6 @@ part-finish-leaves-end c =
     omega (arith, ranged i .held)
 
 finish-leaves-requires : tie.Need-finish-leaves-requires
-
 unfolding limit
 finish-leaves-requires c κs =
     let i = c .before .before .before .before in

@@ -31,17 +31,14 @@ unfolding updated
 returns c = refused _ _ _ (c .before .range-of .ensures) (c .if1 .taken) refl
 
 mul-left : tie.Need-mul-left
-
 unfolding limit
 mul-left c = let r = ranged (c .before) in omega (arith, r .within)
 
 sub-left : tie.Need-sub-left
-
 unfolding limit
 sub-left c = let r = ranged (c .before) in omega (arith, r .within)
 
 sub-left-2 : tie.Need-sub-left-2
-
 unfolding limit
 sub-left-2 c = let r = ranged (c .before) in omega (arith, r .within)
 
@@ -58,7 +55,6 @@ abbrev passed-tests : tie.Else2 → tie.Else1
 passed-tests c = c .before .before
 
 within : (c : tie.Else2) → total (begun (passed-tests c) .args .self) + length (begun (passed-tests c) .args .input .now) ≤ limit
-
 unfolding limit
 within c = let r = ranged (passed-tests c) in omega (arith, r .within, c .if2 .left)
 

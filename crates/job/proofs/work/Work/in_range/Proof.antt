@@ -8,7 +8,6 @@ use Rattle.job.proofs.work.Work.in_range.Statement.{statement}
 use Rattle.job.proofs.work.Work.in_range.Tie as tie
 
 counted : (c : tie.Start) → c .args .self .count ≤ limit
-
 unfolding limit
 counted c = search needs
 
@@ -19,7 +18,6 @@ returns-2 : tie.Need-returns-2
 returns-2 c = range-long-digest (c .before .before .before .args .self) (c .before .before .before .args .length) (c .before .if1 .left) (c .if2 .taken)
 
 returns-3 : tie.Need-returns-3
-
 unfolding limit
 returns-3 c =
     let g = c .before in

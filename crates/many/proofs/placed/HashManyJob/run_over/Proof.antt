@@ -37,6 +37,7 @@ part-run-end : tie.Need-part-run-end
 part-run-end c = let l = lies (c .before) in omega arith
 
 run-requires : tie.Need-run-requires
+unfolding limit
 run-requires c κs =
     let l = lies (c .before .before) in
     let w = within (c .before .before) in

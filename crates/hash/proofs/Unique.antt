@@ -15,6 +15,7 @@ use Rattle.hash.proofs.Hash.write_hex.Reads as hash-write-hex
 use Rattle.hash.proofs.Hash.written_bytes.Reads as hash-written-bytes
 use Rattle.hash.proofs.Hash.written_hex.Reads as hash-written-hex
 use Rattle.hash.proofs.HashAnswer.refused.Reads as refused
+use Rattle.hash.proofs.output.write.Reads as write
 
 -- what a promise `r ≡ answer` settles
 pub unique : {A : Type 0} {a r q : A} → r ≡ a → q ≡ a → r ≡ q
@@ -58,3 +59,6 @@ hash-written-hex-unique κs args r q exit e f = unique e f
 
 pub refused-unique : (κs : _) (args : _) (r q : _) (exit : _) → refused.Post κs args r exit → refused.Post κs args q exit → r ≡ q
 refused-unique κs args r q exit e f = unique e f
+
+pub write-unique : (κs : _) (args : _) (r q : _) (x y : _) → write.Post κs args r x → write.Post κs args q y → (r ≡ q) × (now (x .1 .0) ≡ now (y .1 .0))
+write-unique κs args r q x y e f = (unique (e .0) (f .0), unique (e .1) (f .1))

@@ -35,10 +35,11 @@ pub digest-of-hash : (d : List ℕ) → digestOf (hashOf d) ≡ d
 unfolding pad
 digest-of-hash d = take-append-seam d (replicate (64 - length d) 0)
 
--- a digest that is asked of words, of a length that is in range
-pub made-hash : (n : ℕ) (d : List ℕ) {r : HashAnswer} → isDigestLength n ≡ true → r ≡ madeFrom d n → r ≡ record { number = accepted; hash = hashOf (take n d) }
+-- a digest that is asked of a state's bytes, of a length that is in range
+pub made-hash : (n : ℕ) (d : List ℕ) {r : HashAnswer} → isDigestLength n ≡ true → length d ≡ 64 → r ≡ madeFrom d n
+    → r ≡ record { number = accepted; hash = hashOf (take n d) }
 unfolding madeFrom
-made-hash n d e f = f ∙ rw e
+made-hash n d e l f = let b = digest-length-bounds n e in f ∙ rw (e, le-leb n (length d) (omega arith))
 
 -- sameBytes answers yes exactly where the lists are equal
 same-self : (s : List ℕ) → sameBytes s s ≡ true
@@ -71,20 +72,23 @@ length-hex [] = refl
 length-hex (x ∷ d) = let e = length-hex d in omega arith
 
 -- what is made of 64 bytes
-module _ (d : List ℕ) (l : length d ≡ 64) where
-  pub whole-hash : record { bytes = d; len = 64 } ≡ hashOf d
-  whole-hash = λ i. record { bytes = sym (pad-whole 64 d l) i; len = sym l i }
+pub whole-hash : (d : List ℕ) → length d ≡ 64 → record { bytes = d; len = 64 } ≡ hashOf d
+whole-hash d l = λ i. record { bytes = sym (pad-whole 64 d l) i; len = sym l i }
 
-  pub made : (n : ℕ) → isDigestLength n ≡ true → record { number = accepted; hash = record { bytes = pad 64 (take n d); len = n } } ≡ madeFrom d n
+-- and of the bytes of a state
+module _ (d : List ℕ) (n : ℕ) where
+  pub not-made : isDigestLength n ≡ false → noHash digest-length ≡ madeFrom d n
   unfolding madeFrom
-  made n e =
-      let b = digest-length-bounds n e in
-      let k : length (take n d) ≡ n = length-take-le n d (omega arith) in
-      rw (e, k)
+  not-made e = rw e
 
-pub not-made : (d : List ℕ) (n : ℕ) → isDigestLength n ≡ false → noHash digest-length ≡ madeFrom d n
-unfolding madeFrom
-not-made d n e = rw e
+  module _ (e : isDigestLength n ≡ true) where
+    pub not-there : length d < n → noHash digest-length ≡ madeFrom d n
+    unfolding madeFrom
+    not-there h = rw (e, lt-leb n (length d) h)
+
+    pub made : n ≤ length d → record { number = accepted; hash = record { bytes = pad 64 (take n d); len = n } } ≡ madeFrom d n
+    unfolding madeFrom
+    made h = rw (e, le-leb n (length d) h, length-take-le n d h)
 
 module _ (h : Hash) where
   pub length-known : hashInRange h ≡ true → record { number = accepted; length = h .len } ≡ lengthAnswered h

@@ -37,9 +37,9 @@ zeroHash = record { bytes = zeros 64; len = 0 }
 abbrev pub noHash : ℕ → HashAnswer
 noHash refusal = record { number = refusal; hash = zeroHash }
 
--- the record of a digest that is the first n of 64 bytes
+-- the record of a digest that is the first n bytes of a state's d: no state has a digest of more than there are
 unfoldable pub madeFrom : List ℕ → ℕ → HashAnswer
-madeFrom d n = cond (isDigestLength n) (record { number = accepted; hash = hashOf (take n d) }) (noHash digest-length)
+madeFrom d n = cond (isDigestLength n && leb n (length d)) (record { number = accepted; hash = hashOf (take n d) }) (noHash digest-length)
 
 -- the length of a digest
 unfoldable pub lengthAnswered : Hash → LengthAnswer

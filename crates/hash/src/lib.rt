@@ -5,15 +5,11 @@ mod hex;
 mod output;
 mod writing;
 
+use guts::store;
 use numbers::ACCEPTED;
 use numbers::DIGEST_LENGTH;
 use numbers::RECORD;
-use words::write_words;
 ghost use mathlib.Core.Path.{_≡_};
-ghost use lib.ListN.{take};
-ghost use Rattle.definitions.specs.Words.{pad};
-ghost use Rattle.definitions.specs.Family.{BLAKE2b};
-ghost use Rattle.definitions.specs.Hash.{stateBytes};
 ghost use Rattle.laws_words.specs.Bytes.{zeros};
 ghost use Rattle.hash.specs.Hash.{isDigestLength, hashInRange, hashOf, zeroHash, noHash, madeFrom, lengthAnswered};
 pub use output::write;
@@ -55,22 +51,6 @@ fn zero_bytes() -> [u8; 64]
     [0u8; 64]
 }
 
-// The bytes up to a length, and zeros behind it.
-fn truncated(bytes: [u8; 64], length: usize) -> [u8; 64]
-    ensures { λ r. ⌜ r ≡ pad 64 (take length bytes) ⌝ }
-{
-    if 64 <= length {
-        return bytes;
-    }
-    let mut b = zero_bytes();
-    let mut i: usize = 0;
-    while i < length {
-        b[i] = bytes[i];
-        i += 1;
-    }
-    b
-}
-
 impl HashAnswer {
     // A refusal's number, and the zero record.
     pub fn refused(number: u8) -> Self
@@ -92,22 +72,26 @@ impl Hash {
         Self { bytes, len: 0 }
     }
 
-    // The first `length` bytes of eight words.
-    pub fn from_words(words: [u64; 8], length: usize) -> HashAnswer
-        ensures { λ r. ⌜ r ≡ madeFrom (stateBytes BLAKE2b words) length ⌝ }
+    // The first `length` of a state's bytes, which are as many as its width has.
+    pub fn from_state(state: &[u8], length: usize) -> HashAnswer
+        ensures { λ r. ⌜ r ≡ madeFrom (now (state .entry)) length ⌝ }
     {
-        if is_digest_length(length) {
-            let bytes = truncated(write_words(words), length);
-            let hash = Hash {
-                bytes,
-                len: length as u8,
-            };
-            return HashAnswer {
-                number: ACCEPTED,
-                hash,
-            };
+        if !is_digest_length(length) {
+            return HashAnswer::refused(DIGEST_LENGTH);
         }
-        HashAnswer::refused(DIGEST_LENGTH)
+        if state.len() < length {
+            return HashAnswer::refused(DIGEST_LENGTH);
+        }
+        let mut bytes = zero_bytes();
+        store(&mut bytes, 0, &state[..length]);
+        let hash = Hash {
+            bytes,
+            len: length as u8,
+        };
+        HashAnswer {
+            number: ACCEPTED,
+            hash,
+        }
     }
 
     // A digest of 64 bytes.

@@ -10,7 +10,7 @@ use lib.Dec.{leb, eqb}
 use lib.ListN.{length}
 use Rattle.laws_words.specs.Bytes.{over}
 use Rattle.numbers.specs.Numbers.{accepted, slot-closed}
-use Rattle.hash.specs.Hash.{isDigestLength, hashInRange, hashOf, digestOf, mayWrite, writtenAnswered, writtenOver}
+use Rattle.hash.specs.Hash.{isDigestLength, hashInRange, hashOf, digestOf, writtenAnswered, writtenOver}
 use Rattle.hash.specs.declared.LengthAnswer.{LengthAnswer}
 use Rattle.hash.specs.declared.HashAnswer.{HashAnswer}
 use Rattle.hash.proofs.Digests.{digest-of-hash}
@@ -75,7 +75,7 @@ module _ (b : Bank) (k : ℕ) where
     pub output-written : h .number ≡ accepted → {a : LengthAnswer} {to : List ℕ}
         → a ≡ writtenAnswered (h .hash) (length (digestOf (h .hash))) (length out) → to ≡ writtenOver (h .hash) (digestOf (h .hash)) out
         → (a ≡ lengthAnswer (told b (on k (digest-to out)) .answer)) × (to ≡ told b (on k (digest-to out)) .answer .bytes)
-    unfolding written writtenAnswered writtenOver mayWrite hashInRange over
+    unfolding written writtenAnswered writtenOver hashInRange over
     output-written z {a} {to} f g =
         let d : List ℕ = told b (on k digest) .answer .bytes in
         let s : isDigestLength (length d) ≡ true = told-sized (sym number-is ∙ z) in

@@ -17,6 +17,7 @@ use Rattle.guts.specs.declared.LastNode.{LastNode}
 use Rattle.members.proofs.Promises as promises
 use Rattle.hash.specs.Hash.{hashOf, noHash, madeFrom}
 use Rattle.hash.specs.declared.HashAnswer.{HashAnswer}
+use Rattle.laws_blocks.proofs.Sizes.{length-through}
 use Rattle.hash.proofs.Digests.{made-hash}
 use Rattle.blake2b.specs.Params.{defaults, inRange, asked, front}
 use Rattle.blake2b.specs.State.{lastNodeOf, fresh, updated, finalized, digest, hashed, reads, member}
@@ -44,7 +45,8 @@ module _ (p : Params) (whole : length (p .«key_block») ≡ 128) (good : inRang
   hashed-straight none few {w} {v} e f k g =
       let z : front p ≡ [] = unfold front in rw (lt-leb 1 (p .«key_length») (omega arith)) in
       promises.hashed-straight member laws reads faithful p (begun p whole good) m z few
-      (made-hash (p .«hash_length») (stateBytes BLAKE2b w) (digest-asked p good) g
+      (made-hash (p .«hash_length») (stateBytes BLAKE2b w) (digest-asked p good)
+      (ap (λ (x : List ℕ). length (stateBytes BLAKE2b x)) k ∙ length-through BLAKE2b 128 v 0 true _ m) g
       ∙ ap (λ (x : List ℕ). reads .made (take (p .«hash_length») (stateBytes BLAKE2b x))) (k ∙ (λ i. throughBlocks BLAKE2b 128 (e i) 0 true ((ap isLastNode f ∙ last-node-is (p .«last_node»)) i) m)))
 
   -- the one-shot answer is that of a state that took the message, with a key or without

@@ -16,6 +16,7 @@ use numbers::TOTAL;
 use portable::Compressed;
 use portable::compress1_loop;
 use portable::zero_block;
+use words::write_words;
 ghost use mathlib.Core.Path.{_≡_};
 ghost use mathlib.Core.List.{_++_};
 ghost use Prim.Native.Nat.{_+_, _*_, _^_, _<_, _≤_};
@@ -261,7 +262,8 @@ impl State {
             Stride::Serial,
         );
         let words = run.words;
-        Hash::from_words(words, self.hash_length as usize)
+        let bytes = write_words(words);
+        Hash::from_state(&bytes, self.hash_length as usize)
     }
 
     pub fn set_last_node(self, last_node: bool) -> StateAnswer
@@ -377,7 +379,8 @@ impl Params {
             Stride::Serial,
         );
         let last = run.words;
-        Hash::from_words(last, self.hash_length as usize)
+        let bytes = write_words(last);
+        Hash::from_state(&bytes, self.hash_length as usize)
     }
 }
 

@@ -12,6 +12,7 @@ use Rattle.numbers.specs.Numbers.{accepted, total-over, limit}
 use Rattle.members.proofs.Promises as promises
 use Rattle.hash.specs.Hash.{hashOf, noHash, madeFrom}
 use Rattle.hash.specs.declared.HashAnswer.{HashAnswer}
+use Rattle.laws_states.proofs.Trees.{length-rooted}
 use Rattle.hash.proofs.Digests.{made-hash}
 use Rattle.leaves.specs.Leaves.{leafOf, wordsOf, onLeaf}
 use Rattle.leaves.specs.declared.leaves.Leaf.{Leaf}
@@ -42,7 +43,7 @@ module _ (p : Params) (good : Good p) (m : List ℕ) where
   hashed-straight none few {ls} {es} {w} leaves root ends e =
       let d = p .«hash_length» in
       promises.hashed-straight member laws reads faithful p (begun p good) m (front-plain p (good .whole) (key-short p (good .ranged)) none) few
-      (made-hash d (rooted BLAKE2b w (map wordsOf es)) (digest-asked p (good .ranged)) e
+      (made-hash d (rooted BLAKE2b w (map wordsOf es)) (digest-asked p (good .ranged)) (length-rooted BLAKE2b w (map wordsOf es)) e
       ∙ (λ i. reads .made (take d (rooted BLAKE2b (root i) (map wordsOf ((ends ∙ ap (λ (l : List Leaf). finished 128 onLeaf 4 l 0 m) leaves) i))))))
 
   -- the one-shot answer is that of a state that took the message, with a key or without

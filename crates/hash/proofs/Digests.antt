@@ -1,8 +1,8 @@
--- The laws of digests: their range, comparison and hexadecimal, and each answer case by case.
+-- The laws of digests: their range, comparison and hexadecimal, and each answer case by case but those on an output.
 -- Assumes nothing.
 use mathlib.Core.Path.{_≡_, refl, sym, ap, _∙_}
 use mathlib.Core.Bool.{Bool, true, false, cond, and-false, and-eq-true-iff, false≢true}
-use mathlib.Core.List.{List, [], _∷_, flatMap}
+use mathlib.Core.List.{List, [], _∷_, _++_, flatMap}
 use Prim.Native.Nat.{ℕ, _-_, _*_, _<_, _≤_, zero-le}
 use native.Mathlib.Omega.{arith}
 use borrow.Author.Tests.{le-leb, lt-leb, leb-true, eq-eqb, ne-eqb, eqb-true}
@@ -12,11 +12,10 @@ use lib.Seq.{take-append-seam, drop-append-seam, length-take-le}
 use Rattle.definitions.specs.Words.{pad}
 use Rattle.laws_words.specs.Bytes.{over}
 use Rattle.laws_words.proofs.Bytes.{pad-whole}
-use Rattle.numbers.specs.Numbers.{accepted, digest-length, output-short, bad-record}
-use Rattle.hash.specs.Hash.{isDigestLength, hashInRange, hashOf, digestOf, zeroHash, noHash, madeFrom, lengthAnswered, sameBytes, compared, hexOf, mayWrite, writtenAnswered, writtenOver, writtenPart}
+use Rattle.numbers.specs.Numbers.{accepted, digest-length, bad-record}
+use Rattle.hash.specs.Hash.{isDigestLength, hashInRange, hashOf, digestOf, zeroHash, noHash, madeFrom, lengthAnswered, sameBytes, compared, hexOf}
 use Rattle.hash.specs.declared.Hash.{Hash}
 use Rattle.hash.specs.declared.HashAnswer.{HashAnswer}
-use Rattle.hash.specs.declared.LengthAnswer.{LengthAnswer}
 
 pub digest-length-is : (n : ℕ) → 1 ≤ n → n ≤ 64 → isDigestLength n ≡ true
 digest-length-is n a b = rw (le-leb 1 n a, le-leb n 64 b)
@@ -36,10 +35,11 @@ pub digest-of-hash : (d : List ℕ) → digestOf (hashOf d) ≡ d
 unfolding pad
 digest-of-hash d = take-append-seam d (replicate (64 - length d) 0)
 
--- a digest that is asked of words, of a length that is in range
-pub made-hash : (n : ℕ) (d : List ℕ) {r : HashAnswer} → isDigestLength n ≡ true → r ≡ madeFrom d n → r ≡ record { number = accepted; hash = hashOf (take n d) }
+-- a digest that is asked of a state's bytes, of a length that is in range
+pub made-hash : (n : ℕ) (d : List ℕ) {r : HashAnswer} → isDigestLength n ≡ true → length d ≡ 64 → r ≡ madeFrom d n
+    → r ≡ record { number = accepted; hash = hashOf (take n d) }
 unfolding madeFrom
-made-hash n d e f = f ∙ rw e
+made-hash n d e l f = let b = digest-length-bounds n e in f ∙ rw (e, le-leb n (length d) (omega arith))
 
 -- sameBytes answers yes exactly where the lists are equal
 same-self : (s : List ℕ) → sameBytes s s ≡ true
@@ -72,20 +72,23 @@ length-hex [] = refl
 length-hex (x ∷ d) = let e = length-hex d in omega arith
 
 -- what is made of 64 bytes
-module _ (d : List ℕ) (l : length d ≡ 64) where
-  pub whole-hash : record { bytes = d; len = 64 } ≡ hashOf d
-  whole-hash = λ i. record { bytes = sym (pad-whole 64 d l) i; len = sym l i }
+pub whole-hash : (d : List ℕ) → length d ≡ 64 → record { bytes = d; len = 64 } ≡ hashOf d
+whole-hash d l = λ i. record { bytes = sym (pad-whole 64 d l) i; len = sym l i }
 
-  pub made : (n : ℕ) → isDigestLength n ≡ true → record { number = accepted; hash = record { bytes = pad 64 (take n d); len = n } } ≡ madeFrom d n
+-- and of the bytes of a state
+module _ (d : List ℕ) (n : ℕ) where
+  pub not-made : isDigestLength n ≡ false → noHash digest-length ≡ madeFrom d n
   unfolding madeFrom
-  made n e =
-      let b = digest-length-bounds n e in
-      let k : length (take n d) ≡ n = length-take-le n d (omega arith) in
-      rw (e, k)
+  not-made e = rw e
 
-pub not-made : (d : List ℕ) (n : ℕ) → isDigestLength n ≡ false → noHash digest-length ≡ madeFrom d n
-unfolding madeFrom
-not-made d n e = rw e
+  module _ (e : isDigestLength n ≡ true) where
+    pub not-there : length d < n → noHash digest-length ≡ madeFrom d n
+    unfolding madeFrom
+    not-there h = rw (e, lt-leb n (length d) h)
+
+    pub made : n ≤ length d → record { number = accepted; hash = record { bytes = pad 64 (take n d); len = n } } ≡ madeFrom d n
+    unfolding madeFrom
+    made h = rw (e, le-leb n (length d) h, length-take-le n d h)
 
 module _ (h : Hash) where
   pub length-known : hashInRange h ≡ true → record { number = accepted; length = h .len } ≡ lengthAnswered h
@@ -117,89 +120,16 @@ module _ (h : Hash) where
     pub length-digest : length (digestOf h) ≡ h .len
     length-digest = length-take-le (h .len) (h .bytes) digest-within
 
-  -- n bytes of text are to go to an output of `room` bytes
-  module _ (n room : ℕ) where
-    pub answer-bad : hashInRange h ≡ false → record { number = bad-record; length = 0 } ≡ writtenAnswered h n room
-    unfolding writtenAnswered
-    answer-bad e = rw e
+    -- and twice as many digits, which fit where the most do
+    pub hex-length : length (hexOf (digestOf h)) ≡ 2 * h .len
+    hex-length = length-hex (digestOf h) ∙ ap (λ (n : ℕ). 2 * n) length-digest
 
-    pub answer-short : hashInRange h ≡ true → room < n → record { number = output-short; length = 0 } ≡ writtenAnswered h n room
-    unfolding writtenAnswered
-    answer-short e f = rw (e, lt-leb n room f)
+    pub hex-within : 2 * h .len ≤ 128
+    unfolding hashInRange
+    hex-within = let b = digest-length-bounds (h .len) e in omega arith
 
-    pub answer-fits : hashInRange h ≡ true → n ≤ room → record { number = accepted; length = n } ≡ writtenAnswered h n room
-    unfolding writtenAnswered
-    answer-fits e f = rw (e, le-leb n room f)
-
-    -- what holds in the three cases holds of the answer, and of whether the text is written
-    by-cases : (P : LengthAnswer → Bool → Type 0)
-        → P (record { number = bad-record; length = 0 }) false
-        → P (record { number = output-short; length = 0 }) false
-        → (n ≤ room → P (record { number = accepted; length = n }) true)
-        → P (writtenAnswered h n room) (mayWrite h n room)
-    unfolding writtenAnswered mayWrite
-    by-cases P bad short fits = split (hashInRange h) (leb n room) refl refl
-      where
-        split : (p q : Bool) → hashInRange h ≡ p → leb n room ≡ q → P (writtenAnswered h n room) (mayWrite h n room)
-        split true true e f = rw (e, f) (fits (leb-true n room f))
-        split true false e f = rw (e, f) short
-        split false q e f = rw e bad
-
-    accepted-exactly : eqb (writtenAnswered h n room .number) accepted ≡ mayWrite h n room
-    accepted-exactly = by-cases (λ a w. eqb (a .number) accepted ≡ w) refl refl (λ f. refl)
-
-    pub answered-within : writtenAnswered h n room .length ≤ room
-    answered-within = by-cases (λ a w. a .length ≤ room) zero-le zero-le (λ f. f)
-
-  -- of a bad record, the answer does not look at the text
-  answer-at : (room : ℕ) {n k : ℕ} → (hashInRange h ≡ true → n ≡ k) → writtenAnswered h n room ≡ writtenAnswered h k room
-  answer-at room {n} {k} g = split (hashInRange h) refl
-    where
-      split : (q : Bool) → hashInRange h ≡ q → writtenAnswered h n room ≡ writtenAnswered h k room
-      split true e = ap (λ (j : ℕ). writtenAnswered h j room) (g e)
-      split false e = sym (answer-bad n room e) ∙ answer-bad k room e
-
-  module _ (l : length (h .bytes) ≡ 64) (room : ℕ) where
-    pub bytes-answer : writtenAnswered h (h .len) room ≡ writtenAnswered h (length (digestOf h)) room
-    bytes-answer = answer-at room (λ e. sym (length-digest l e))
-
-    pub hex-answer : writtenAnswered h (2 * h .len) room ≡ writtenAnswered h (length (hexOf (digestOf h))) room
-    hex-answer = answer-at room (λ e. sym (length-hex (digestOf h) ∙ ap (λ (n : ℕ). 2 * n) (length-digest l e)))
-
-  -- a is the answer to a write of a text, the digest's bytes or their hexadecimal, to an output
-  module _ (text out : List ℕ) {a : LengthAnswer} (e : a ≡ writtenAnswered h (length text) (length out)) where
-    may : mayWrite h (length text) (length out) ≡ eqb (a .number) accepted
-    may = sym (accepted-exactly (length text) (length out)) ∙ ap (λ (b : LengthAnswer). eqb (b .number) accepted) (sym e)
-
-    pub accepted-means : a .number ≡ accepted → (hashInRange h ≡ true) × (length text ≤ length out)
-    unfolding mayWrite
-    accepted-means f =
-        let p = and-eq-true-iff (hashInRange h) (leb (length text) (length out)) .0 (may ∙ eq-eqb (a .number) accepted f) in
-        (p .0, leb-true (length text) (length out) (p .1))
-
-    pub over-accepted : a .number ≡ accepted → over text out ≡ writtenOver h text out
-    unfolding writtenOver
-    over-accepted f = rw (may, eq-eqb (a .number) accepted f)
-
-    pub over-refused : (a .number ≡ accepted → ⊥) → out ≡ writtenOver h text out
-    unfolding writtenOver
-    over-refused f = rw (may, ne-eqb (a .number) accepted f)
-
-    length-over : a .number ≡ accepted → length (over text out) ≡ length out
+    pub hex-front : (out : List ℕ) {now : List ℕ} → now ≡ over (hexOf (digestOf h)) out → take (2 * h .len) now ≡ hexOf (digestOf h)
     unfolding over
-    length-over f = let g = accepted-means f .1 in simp (length-append, length-drop) (omega arith)
-
-    -- after an accepted write the part that is handed back is the text, and what lies behind it is as it was
-    pub text-handed-back : a .number ≡ accepted → writtenPart h (length text) (writtenOver h text out) ≡ text
-    unfolding writtenPart over
-    text-handed-back f =
-        rw (← over-accepted f, length-over f, may, eq-eqb (a .number) accepted f) (take-append-seam text (drop (length text) out))
-
-    pub rest-untouched : a .number ≡ accepted → drop (length text) (writtenOver h text out) ≡ drop (length text) out
-    unfolding over
-    rest-untouched f = rw (← over-accepted f) (drop-append-seam text (drop (length text) out))
-
-  -- the answer's length cuts the written part off
-  pub part-answered : (n : ℕ) (out : List ℕ) → take (writtenAnswered h n (length out) .length) out ≡ writtenPart h n out
-  unfolding writtenPart
-  part-answered n out = by-cases n (length out) (λ a w. take (a .length) out ≡ cond w (take n out) []) refl refl (λ f. refl)
+    hex-front out f =
+        ap (take (2 * h .len)) f ∙ ap (λ (n : ℕ). take n (hexOf (digestOf h) ++ drop (length (hexOf (digestOf h))) out)) (sym hex-length)
+        ∙ take-append-seam (hexOf (digestOf h)) (drop (length (hexOf (digestOf h))) out)

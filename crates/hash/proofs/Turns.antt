@@ -1,4 +1,4 @@
--- A turn of each loop over the bytes of a digest: comparing them, writing them out, writing them in hexadecimal.
+-- A turn of each loop over the bytes of a digest: comparing them, and writing them in hexadecimal.
 -- Assumes nothing.
 use mathlib.Core.Path.{_≡_, refl, sym, ap, _∙_}
 use mathlib.Core.Bool.{true, false, _&&_}
@@ -43,11 +43,6 @@ over-more s x out i e h =
     ∙ set-at s (out ! n) (drop (suc n) out) x i e
     ∙ sym (append-snoc s x (drop (suc n) out))
     ∙ ap (λ (k : ℕ). s ++ (x ∷ []) ++ drop k out) (sym (length-append s (x ∷ []) ∙ add-one n))
-
-pub put-more : (s out : List ℕ) (i : ℕ) → i < length s → i < length out → set (over (take i s) out) i (s ! i) ≡ over (take (i + 1) s) out
-put-more s out i h g =
-    over-more (take i s) (s ! i) out i (length-take-le i s (omega arith)) g
-    ∙ ap (λ (l : List ℕ). over l out) (sym (one-more s i h))
 
 hex-snoc : (s : List ℕ) (x : ℕ) → hexOf (s ++ (x ∷ [])) ≡ hexOf s ++ (digitOf (x / 16) ∷ []) ++ (digitOf (x % 16) ∷ [])
 unfolding hexOf flatMap

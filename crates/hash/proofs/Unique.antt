@@ -4,7 +4,7 @@ use mathlib.Core.Path.{_≡_, sym, _∙_}
 use denote.Ref.{now}
 use Rattle.hash.proofs.is_digest_length.Reads as is-digest-length
 use Rattle.hash.proofs.Hash.zero.Reads as hash-zero
-use Rattle.hash.proofs.Hash.from_words.Reads as hash-from-words
+use Rattle.hash.proofs.Hash.from_state.Reads as hash-from-state
 use Rattle.hash.proofs.Hash.from_bytes.Reads as hash-from-bytes
 use Rattle.hash.proofs.Hash.in_range.Reads as hash-in-range
 use Rattle.hash.proofs.Hash.len.Reads as hash-len
@@ -15,6 +15,7 @@ use Rattle.hash.proofs.Hash.write_hex.Reads as hash-write-hex
 use Rattle.hash.proofs.Hash.written_bytes.Reads as hash-written-bytes
 use Rattle.hash.proofs.Hash.written_hex.Reads as hash-written-hex
 use Rattle.hash.proofs.HashAnswer.refused.Reads as refused
+use Rattle.hash.proofs.output.write.Reads as write
 
 -- what a promise `r ≡ answer` settles
 pub unique : {A : Type 0} {a r q : A} → r ≡ a → q ≡ a → r ≡ q
@@ -26,8 +27,8 @@ is-digest-length-unique κs args r q exit e f = unique e f
 pub hash-zero-unique : (κs : _) (args : _) (r q : _) (exit : _) → hash-zero.Post κs args r exit → hash-zero.Post κs args q exit → r ≡ q
 hash-zero-unique κs args r q exit e f = unique e f
 
-pub hash-from-words-unique : (κs : _) (args : _) (r q : _) (exit : _) → hash-from-words.Post κs args r exit → hash-from-words.Post κs args q exit → r ≡ q
-hash-from-words-unique κs args r q exit e f = unique e f
+pub hash-from-state-unique : (κs : _) (args : _) (r q : _) (exit : _) → hash-from-state.Post κs args r exit → hash-from-state.Post κs args q exit → r ≡ q
+hash-from-state-unique κs args r q exit e f = unique e f
 
 pub hash-from-bytes-unique : (κs : _) (args : _) (r q : _) (exit : _) → hash-from-bytes.Post κs args r exit → hash-from-bytes.Post κs args q exit → r ≡ q
 hash-from-bytes-unique κs args r q exit e f = unique e f
@@ -58,3 +59,6 @@ hash-written-hex-unique κs args r q exit e f = unique e f
 
 pub refused-unique : (κs : _) (args : _) (r q : _) (exit : _) → refused.Post κs args r exit → refused.Post κs args q exit → r ≡ q
 refused-unique κs args r q exit e f = unique e f
+
+pub write-unique : (κs : _) (args : _) (r q : _) (x y : _) → write.Post κs args r x → write.Post κs args q y → (r ≡ q) × (now (x .1 .0) ≡ now (y .1 .0))
+write-unique κs args r q x y e f = (unique (e .0) (f .0), unique (e .1) (f .1))

@@ -6,9 +6,9 @@ use Prim.Native.Nat.{ℕ, _+_, _/_, _%_}
 use lib.Dec.{leb, ltb, eqb}
 use lib.ListN.{length, take}
 use Rattle.definitions.specs.Words.{pad}
-use Rattle.laws_words.specs.Bytes.{zeros, over}
+use Rattle.laws_words.specs.Bytes.{zeros}
 use Rattle.numbers.specs.Numbers.{accepted, digest-length, bad-record}
-use Rattle.hash.specs.Output.{wrote}
+use Rattle.hash.specs.Output.{wrote, wroteOver, wrotePart}
 use Rattle.hash.specs.declared.Hash.{Hash}
 use Rattle.hash.specs.declared.HashAnswer.{HashAnswer}
 use Rattle.hash.specs.declared.LengthAnswer.{LengthAnswer}
@@ -37,9 +37,9 @@ zeroHash = record { bytes = zeros 64; len = 0 }
 abbrev pub noHash : ℕ → HashAnswer
 noHash refusal = record { number = refusal; hash = zeroHash }
 
--- the record of a digest that is the first n of 64 bytes
+-- the record of a digest that is the first n bytes of a state's d: no state has a digest of more than there are
 unfoldable pub madeFrom : List ℕ → ℕ → HashAnswer
-madeFrom d n = cond (isDigestLength n) (record { number = accepted; hash = hashOf (take n d) }) (noHash digest-length)
+madeFrom d n = cond (isDigestLength n && leb n (length d)) (record { number = accepted; hash = hashOf (take n d) }) (noHash digest-length)
 
 -- the length of a digest
 unfoldable pub lengthAnswered : Hash → LengthAnswer
@@ -64,18 +64,14 @@ digitOf n = cond (ltb n 10) (n + 48) (n + 87)
 unfoldable pub hexOf : List ℕ → List ℕ
 hexOf d = flatMap (λ b. digitOf (b / 16) ∷ digitOf (b % 16) ∷ []) d
 
--- n bytes of text of a digest are to go to an output of `room` bytes: whether they may
-unfoldable pub mayWrite : Hash → ℕ → ℕ → Bool
-mayWrite h n room = hashInRange h && leb n room
-
--- the answer
+-- n bytes of text of a digest are to go to an output of `room` bytes: the answer
 unfoldable pub writtenAnswered : Hash → ℕ → ℕ → LengthAnswer
 writtenAnswered h n room = cond (hashInRange h) (wrote n room) (record { number = bad-record; length = 0 })
 
--- the output once the text was to go there: the text over its front, or every byte as it was
+-- the output once the text was to go there
 unfoldable pub writtenOver : Hash → List ℕ → List ℕ → List ℕ
-writtenOver h text out = cond (mayWrite h (length text) (length out)) (over text out) out
+writtenOver h text out = cond (hashInRange h) (wroteOver text out) out
 
--- the part of an output that n bytes of text were written to: nothing where that was refused
+-- the part of an output that n bytes of text were written to
 unfoldable pub writtenPart : Hash → ℕ → List ℕ → List ℕ
-writtenPart h n out = cond (mayWrite h n (length out)) (take n out) []
+writtenPart h n out = cond (hashInRange h) (wrotePart n out) []

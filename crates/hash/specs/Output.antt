@@ -1,10 +1,10 @@
--- A text to a lent output, whole or not at all: what is answered, and the output after it, as document 01's refusal 11 says.
+-- A text to a lent output, whole or not at all: what is answered, the output after it, and the part written, as document 01's refusal 11 says.
 -- Assumes nothing.
 use mathlib.Core.Bool.{cond}
 use mathlib.Core.List.{List}
 use Prim.Native.Nat.{ℕ}
 use lib.Dec.{leb}
-use lib.ListN.{length}
+use lib.ListN.{length, take}
 use Rattle.laws_words.specs.Bytes.{over}
 use Rattle.numbers.specs.Numbers.{accepted, output-short}
 use Rattle.hash.specs.declared.LengthAnswer.{LengthAnswer}
@@ -16,3 +16,7 @@ wrote n room = cond (leb n room) (record { number = accepted; length = n }) (rec
 -- the text over the output's front, or every byte as it was
 abbrev pub wroteOver : List ℕ → List ℕ → List ℕ
 wroteOver text out = cond (leb (length text) (length out)) (over text out) out
+
+-- the part that the n bytes went to: none of it where they did not
+abbrev pub wrotePart : ℕ → List ℕ → List ℕ
+wrotePart n out = take (wrote n (length out) .length) out

@@ -7,11 +7,12 @@ use Prim.Native.Nat.{ℕ, _+_, _-_, _<_, _≤_}
 use native.Mathlib.Omega.{arith}
 use borrow.Author.Tests.{not-true, not-false, le-leb, lt-leb, leb-true, leb-false}
 use lib.Dec.{leb}
+use lib.ListN.{length, take}
 use Rattle.definitions.specs.Family.{BLAKE2b}
 use Rattle.definitions.specs.Hash.{start, stateBytes}
 use Rattle.laws_blocks.specs.Blocks.{throughBlocks}
-use Rattle.numbers.specs.Numbers.{job-unfinished, bad-record, limit}
-use Rattle.hash.specs.Hash.{isDigestLength, noHash, madeFrom}
+use Rattle.numbers.specs.Numbers.{accepted, job-unfinished, bad-record, limit}
+use Rattle.hash.specs.Hash.{isDigestLength, hashOf, noHash, madeFrom}
 use Rattle.blake2b.specs.Params.{asked}
 use Rattle.hash.specs.declared.HashAnswer.{HashAnswer}
 use Rattle.blake2b.specs.declared.params.Params.{Params}
@@ -99,8 +100,10 @@ module _ (w : Work) (n : ℕ) {good : Bool} (e : good ≡ workInRange w n) {r : 
   unfolding workHash
   hash-unfinished h g f = rw (sym e ∙ not-false good h, not-true (w .finished) g) f
 
-  pub hash-finished : not good ≡ false → not (w .finished) ≡ false → r ≡ madeFrom (stateBytes BLAKE2b (w .words)) (w .«hash_length») → r ≡ workHash w n
+  pub hash-finished : not good ≡ false → not (w .finished) ≡ false → {d : List ℕ} → length d ≡ 64 → d ≡ stateBytes BLAKE2b (w .words) → r ≡ madeFrom d (w .«hash_length»)
+      → r ≡ workHash w n
   unfolding workHash
-  hash-finished h g f =
+  hash-finished h g {d} l b f =
       let q = sym e ∙ not-false good h in
-      rw (q, not-false (w .finished) g) (made-hash (w .«hash_length») (stateBytes BLAKE2b (w .words)) (in-range w n q .0) f)
+      rw (q, not-false (w .finished) g)
+      (made-hash (w .«hash_length») d (in-range w n q .0) l f ∙ ap (λ (x : List ℕ). record { number = accepted; hash = hashOf (take (w .«hash_length») x) }) b)

@@ -6,6 +6,7 @@ use hash::HashAnswer;
 use numbers::LIMIT;
 use numbers::RECORD;
 use numbers::UNFINISHED;
+use words::write_words;
 ghost use mathlib.Core.Path.{_≡_};
 ghost use Prim.Native.Nat.{_+_, _^_, _<_};
 ghost use lib.ListN.{length};
@@ -72,6 +73,7 @@ impl Work {
             return HashAnswer::refused(UNFINISHED);
         }
         let words = self.words;
-        Hash::from_words(words, self.hash_length as usize)
+        let bytes = write_words(words);
+        Hash::from_state(&bytes, self.hash_length as usize)
     }
 }

@@ -22,8 +22,14 @@ use Rattle.laws_states.specs.Deal.{finished, parallel}
 use Rattle.laws_states.specs.Leaves.{rowOf, rooted, keyedRow, leafStarts, rootStart}
 use Rattle.laws_states.proofs.Buffers.{closed-after}
 use Rattle.laws_blocks.proofs.Calls.{untruncated-through, share-calls-through}
+use Rattle.laws_blocks.proofs.Sizes.{length-through}
 use Rattle.laws_states.proofs.Deals.{each-map, parallel-lawful, parallel-late}
 use Rattle.laws_states.proofs.Images.{finished-image}
+
+-- a root's state has eight words
+pub length-rooted : (f : Family) (h : List ℕ) (ls : List (List ℕ)) → length (rooted f h ls) ≡ 8 * f .ww
+unfolding rooted
+length-rooted f h ls = length-through f (f .bb) h 0 true true (flatMap (stateBytes f) ls)
 
 -- what is flat of values that agree
 flat-same : {A C : Type 0} (u : ℕ → List C) (b : A → List C) (c : ℕ → A) (i k : ℕ) → ((j : ℕ) → j < i + k → u j ≡ b (c j)) → flatMap u (from i k) ≡ flatMap b (map c (from i k))

@@ -147,5 +147,6 @@ pub fn finalize_root_words(
         Stride::Serial,
     );
     let words = run.words;
-    Hash::from_words(words, hash_length as usize)
+    let bytes = write_words(words);
+    Hash::from_state(&bytes, hash_length as usize)
 }

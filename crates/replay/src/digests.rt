@@ -13,6 +13,7 @@ use replay_text::put;
 use replay_text::put_bytes;
 use replay_text::put_number;
 use words::read_words;
+use words::write_words;
 
 // The first 64 bytes.
 fn sixty_four(bytes: &[u8]) -> [u8; 64] {
@@ -34,6 +35,12 @@ fn made(hash: Hash) -> HashAnswer {
     HashAnswer { number: 0, hash }
 }
 
+// Of the state that the words are.
+fn of_words(words: [u64; 8], length: usize) -> HashAnswer {
+    let bytes = write_words(words);
+    Hash::from_state(&bytes, length)
+}
+
 fn digest(state: State, params: Params, row: usize, n: u64, message: &[u8]) -> HashAnswer {
     match row {
         table::STATE_FINALIZE => state.finalize(),
@@ -41,7 +48,7 @@ fn digest(state: State, params: Params, row: usize, n: u64, message: &[u8]) -> H
         table::BLAKE2B => made(blake2b(message)),
         table::DIGEST_ZERO => made(Hash::zero()),
         table::DIGEST_FROM_BYTES => made(Hash::from_bytes(sixty_four(message))),
-        _ => Hash::from_words(eight_words(message), n as usize),
+        _ => of_words(eight_words(message), n as usize),
     }
 }
 

@@ -3,15 +3,14 @@
 use mathlib.Core.Path.{_≡_, refl, sym, ap, subst, _∙_}
 use mathlib.Core.Bool.{Bool, true, false, not}
 use mathlib.Core.List.{List, _++_}
-use Prim.Native.Nat.{ℕ, _+_, _<_, _≤_}
-use native.Mathlib.Nat.{zero-add}
+use Prim.Native.Nat.{ℕ, _≤_}
 use native.Mathlib.Omega.{arith}
-use borrow.Author.Tests.{not-true, not-false, le-leb, lt-leb}
+use borrow.Author.Tests.{not-true, not-false, le-leb}
 use lib.Dec.{eqb}
 use lib.ListN.{length, take, drop}
-use lib.Seq.{paste, take-all, take-append-seam}
+use lib.Seq.{take-append-seam}
 use Rattle.laws_words.specs.Bytes.{over}
-use Rattle.numbers.specs.Numbers.{accepted, output-short, bad-record}
+use Rattle.numbers.specs.Numbers.{accepted, bad-record}
 use Rattle.hash.specs.Hash.{hashInRange, digestOf, hexOf, lengthAnswered, writtenAnswered}
 use Rattle.hash.specs.Hash as hashes
 use Rattle.blake2b.specs.State.{stateInRange, updated, finalized, counted, closedDigest, bounds}
@@ -21,7 +20,8 @@ use Rattle.hash.specs.declared.LengthAnswer.{LengthAnswer}
 use Rattle.blake2b.specs.declared.state.State.{State}
 use Rattle.blake2b.specs.declared.state.StateAnswer.{StateAnswer}
 use Rattle.blake2b.specs.declared.state.CountAnswer.{CountAnswer}
-use Rattle.hash.proofs.Digests.{digest-length-bounds, hash-in-range, length-hex, length-digest, length-known, answer-fits, over-accepted}
+use Rattle.hash.proofs.Digests.{digest-length-bounds, hash-in-range, length-hex, length-digest, length-known}
+use Rattle.hash.proofs.Outputs.{room-enough, answered-good, over-good}
 use Rattle.members.proofs.Ranges.{in-range}
 use Rattle.blake2b.proofs.Lengths.{length-closed-digest}
 use Rattle.report_text.specs.Ascii.{ascii}
@@ -56,9 +56,10 @@ module _ (h : Hash) (whole : length (h .bytes) ≡ 64) (good : hashInRange h ≡
   hex-written space now {a} l e f =
       let text = hexOf (digestOf h) in
       let fits : length text ≤ length space = let d = digest-fits in omega arith in
-      let g : a ≡ record { number = accepted; length = length text } = e ∙ sym (answer-fits h (length text) (length space) good fits) in
+      let g : a ≡ record { number = accepted; length = length text } =
+      e ∙ answered-good h good (length text) (length space) ∙ sym (room-enough (length text) (length space) fits) in
       let n : a .length ≡ length text = λ i. g i .length in
-      let o : now ≡ text ++ drop (length text) space = f ∙ sym (over-accepted h text space e (λ i. g i .number)) in
+      let o : now ≡ text ++ drop (length text) space = f ∙ over-good h good text space ∙ rw (le-leb (length text) (length space) fits) in
       (n, (λ i. take (n i) (o i)) ∙ take-append-seam text (drop (length text) space))
 
   pub length-told : {a : LengthAnswer} → a ≡ lengthAnswered h → a .length ≡ length (digestOf h)
@@ -96,21 +97,6 @@ module _ (r : Report) (out now : List ℕ) (end : ℕ) where
       let t : fiveLines (length (digestOf (a .hash))) 0 (c .count) (digestOf (a .hash)) ≡ linesOf r =
       rw (not-false (r .readable) h) (λ i. fiveLines (length (digestOf (e i .hash))) 0 (f i .count) (digestOf (e i .hash))) in
       subst (λ (l : List ℕ). Appends out 0 l now end) t p
-
--- a text that is to go to an output
-module _ (text out : List ℕ) where
-  pub wrote-short : length out < length text → (record { number = output-short; length = 0 } ≡ wrote (length text) (length out)) × (out ≡ wroteOver text out)
-  wrote-short h = let e = lt-leb (length text) (length out) h in (rw e refl, rw e refl)
-
-  pub wrote-fits : {now : List ℕ} {end : ℕ} → length text ≤ length out → (end ≡ 0 + length text) × (now ≡ paste out 0 text (length text))
-      → (record { number = accepted; length = end } ≡ wrote (length text) (length out)) × (now ≡ wroteOver text out)
-  unfolding over
-  wrote-fits {now} {end} h p =
-      let e = le-leb (length text) (length out) h in
-      let n = p .0 ∙ zero-add (length text) in
-      let o : now ≡ text ++ drop (length text) out =
-      p .1 ∙ (λ i. take-all (length text) text (omega arith) i ++ drop (zero-add (length text) i) out) in
-      (rw (e, n) refl, rw e o)
 
 -- the report's text, to an output
 module _ (r : Report) (out : List ℕ) {good : Bool} (e : good ≡ stateInRange (r .state)) where

@@ -8,7 +8,7 @@ ghost use lib.ListN.{length};
 ghost use lib.Seq.{paste};
 ghost use Rattle.report_text.specs.Lines.{line, Appends, decimal as decimalOf};
 
-pub(crate) fn put(out: &mut [u8], at: usize, text: &[u8]) -> usize
+fn put(out: &mut [u8], at: usize, text: &[u8]) -> usize
     requires { ⌜ at + length (now text) ≤ length (now out) ⌝ }
     ensures { λ r. ⌜ (r ≡ at + length (now (text .entry))) × (now (out .exit) ≡ paste (now (out .entry)) at (now (text .entry)) (length (now (text .entry)))) ⌝ }
 {

@@ -1,21 +1,19 @@
 // The report of an input that is read piece by piece: five lines of it, or the one line that says it can't be read.
 // It opens its state itself, so that the lengths of digest and key are not the caller's to choose.
-use crate::lines::put;
 use crate::lines::put_line;
 use crate::lines::put_number;
 use blake2b::State;
 use hash::Hash;
 use hash::LengthAnswer;
+use hash::write;
 use io::count;
 use numbers::ACCEPTED;
-use numbers::OUTPUT;
 use numbers::RECORD;
 ghost use mathlib.Core.Path.{_≡_};
 ghost use mathlib.Core.Bool.{true};
 ghost use Prim.Native.Nat.{_+_, _≤_};
 ghost use lib.ListN.{length};
 ghost use Rattle.hash.specs.Hash.{hashInRange, digestOf, hexOf};
-ghost use Rattle.hash.specs.Output.{wrote, wroteOver};
 ghost use Rattle.blake2b.specs.State.{stateInRange};
 ghost use Rattle.report_text.specs.Ascii.{ascii};
 ghost use Rattle.report_text.specs.Lines.{line, lengthLines, fiveLines, Appends};
@@ -61,24 +59,6 @@ fn put_five(out: &mut [u8], hash: Hash, count: u64) -> usize
     let lengths = put_lengths(out, length.length as u64);
     let counted = put_number(out, lengths, b"count", count);
     put_digest(out, counted, hash)
-}
-
-// The text, over the front of an output that has room for it.
-fn write(text: &[u8], out: &mut [u8]) -> LengthAnswer
-    ensures { λ r. ⌜ (r ≡ wrote (length (now (text .entry))) (length (now (out .entry)))) × (now (out .exit) ≡ wroteOver (now (text .entry)) (now (out .entry))) ⌝ }
-{
-    let n = text.len();
-    if out.len() < n {
-        return LengthAnswer {
-            number: OUTPUT,
-            length: 0,
-        };
-    }
-    let end = put(out, 0, text);
-    LengthAnswer {
-        number: ACCEPTED,
-        length: end,
-    }
 }
 
 impl Report {

@@ -2,68 +2,55 @@
 -- Assumes nothing.
 use mathlib.Core.Path.{_≡_, sym, _∙_}
 use mathlib.Core.Bool.{true}
-use Prim.Native.Nat.{_≤_}
 use borrow.Author.Needs.{needs}
+use borrow.Author.Tests.{not-true, not-false}
 use denote.Ref.{now}
 use lib.ListN.{length}
 use Rattle.hash.specs.Hash.{hashInRange, digestOf}
-use Rattle.hash.proofs.Digests.{digest-within, length-digest, accepted-means, over-accepted, over-refused}
+use Rattle.hash.proofs.Digests.{digest-within, length-digest}
+use Rattle.hash.proofs.Outputs.{written-bad, written-good}
 use Rattle.hash.proofs.Hash.write_bytes.Statement.{statement}
 use Rattle.hash.proofs.Hash.write_bytes.Tie as tie
 
 sized : (c : tie.Start) → length (c .args .self .bytes) ≡ 64
 sized c = search needs
 
--- what an accepted write may go by
-fits : (c : tie.Then1) → let a = c .before .before .before .before .args in (hashInRange (a .self) ≡ true) × (length (digestOf (a .self)) ≤ length (now (a .out)))
-fits c =
-    let a = c .before .before .before .before .args in
-    accepted-means (a .self) (digestOf (a .self)) (now (a .out)) (c .before .before .bytes-answer .ensures) (c .if1 .taken)
-
-bytes-answer-requires : tie.Need-bytes-answer-requires
-bytes-answer-requires c κs = search needs
-
-cast-n : tie.Need-cast-n
-cast-n c = search needs
-
-array-share-prefix-bytes : tie.Need-array-share-prefix-bytes
-array-share-prefix-bytes c =
-    let s = c .before .before .before .before .before .before in
-    digest-within (s .args .self) (sized s) (fits (c .before .before) .0)
-
-slice-aggregate-put : tie.Need-slice-aggregate-put
-slice-aggregate-put c =
-    let s = c .before .before .before .before .before .before .before in
-    sym (length-digest (s .args .self) (sized s) (fits (c .before .before .before) .0))
-
-put-requires : tie.Need-put-requires
-put-requires c κs = fits (c .before .before .before .before) .1
-
-same-length : tie.Need-same-length
-same-length c = search needs
+good : (c : tie.Else1) → hashInRange (c .before .before .before .args .self) ≡ true
+good c = sym (c .before .in-range .ensures) ∙ not-false (c .before .in-range .result) (c .if1 .left)
 
 returns : tie.Need-returns
 returns c =
-    let t = c .before .before .before .before .before .before .before in
-    let a = t .before .before .before .before .args in
-    let e = t .before .before .bytes-answer .ensures in
-    (e, c .before .before .put .ensures ∙ over-accepted (a .self) (digestOf (a .self)) (now (a .out)) e (t .if1 .taken))
+    let a = c .before .before .before .args in
+    written-bad (a .self) (sym (c .before .in-range .ensures) ∙ not-true (c .before .in-range .result) (c .if1 .taken)) (digestOf (a .self)) (now (a .out))
+
+array-share-prefix-bytes : tie.Need-array-share-prefix-bytes
+array-share-prefix-bytes c =
+    let e = c .before .before in
+    let s = e .before .before .before in
+    digest-within (s .args .self) (sized s) (good e)
+
+slice-aggregate-write : tie.Need-slice-aggregate-write
+slice-aggregate-write c =
+    let e = c .before .before .before in
+    let s = e .before .before .before in
+    sym (length-digest (s .args .self) (sized s) (good e))
 
 returns-2 : tie.Need-returns-2
 returns-2 c =
-    let a = c .before .before .before .before .args in
-    let e = c .before .before .bytes-answer .ensures in
-    (e, over-refused (a .self) (digestOf (a .self)) (now (a .out)) e (c .if1 .left))
+    let w = c .before .before in
+    let e = w .before .before .before .before .before in
+    let a = e .before .before .before .args in
+    written-good (a .self) (good e) (digestOf (a .self)) (now (a .out)) (w .write .ensures)
 
 pub write-bytes-spec : {M : Type 1} → statement M
 write-bytes-spec =
     tie.close
     (tie.spec
-    bytes-answer-requires
-    cast-n
-    array-share-prefix-bytes
-    slice-aggregate-put
-    put-requires
-    same-length
+    (λ c κs. search needs)
     returns
+    (λ c. search needs)
+    array-share-prefix-bytes
+    slice-aggregate-write
+    (λ c κs. search needs)
+    (λ c. search needs)
     returns-2)

@@ -17,11 +17,15 @@ use Rattle.leaves.proofs.leaves.finalize_root_words.Tie as tie
 returns : tie.Need-returns
 unfolding rooted
 returns c =
-    let run = c .before .before in
+    let d = c .before .before in
+    let run = d .before .before in
     let l = run .before .before in
     let a = l .before .args in
-    c .from-words .ensures
-    ∙ ap (λ (w : List ℕ). madeFrom (stateBytes BLAKE2b w) (a .hash-length)) (run .compress1-loop .ensures ∙ ap (throughBlocks BLAKE2b 128 (a .root-words) 0 true true) (l .leaf-bytes .ensures ∙ flat-words (a .leaves)))
+    c .from-state .ensures
+    ∙ ap (λ (b : List ℕ). madeFrom b (a .hash-length))
+    (d .write-words .ensures
+    ∙ ap (stateBytes BLAKE2b) (run .compress1-loop .ensures ∙ ap (throughBlocks BLAKE2b 128 (a .root-words) 0 true true) (l .leaf-bytes .ensures ∙ flat-words (a .leaves))))
 
 pub finalize-root-words-spec : {M : Type 1} → statement M
-finalize-root-words-spec = tie.close (tie.spec (λ c κs. search needs) (λ c. search needs) (λ c κs. search needs) (λ c κs. search needs) returns)
+finalize-root-words-spec =
+    tie.close (tie.spec (λ c κs. search needs) (λ c. search needs) (λ c κs. search needs) (λ c κs. search needs) (λ c. search needs) (λ c κs. search needs) returns)

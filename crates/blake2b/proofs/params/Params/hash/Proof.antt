@@ -2,13 +2,15 @@
 -- Assumes nothing.
 use mathlib.Core.Path.{_≡_, sym, ap, _∙_}
 use mathlib.Core.Bool.{true}
+use mathlib.Core.List.{List}
 use borrow.Author.Tests.{not-false}
 use lib.ListN.{length}
-use Prim.Native.Nat.{_≤_}
+use Prim.Native.Nat.{ℕ, _≤_}
 use Rattle.numbers.specs.Numbers.{limit}
 use Rattle.blake2b.specs.Params.{inRange}
 use Rattle.blake2b.specs.State.{fresh, updated, hashed}
 use Rattle.blake2b.specs.declared.state.State.{State}
+use Rattle.hash.specs.Hash.{madeFrom}
 use Rattle.numbers.proofs.Picks.{refused}
 use Rattle.blake2b.proofs.OneShot.{hashed-past, hashed-through, hashed-straight}
 use borrow.Author.Needs.{needs}
@@ -55,13 +57,34 @@ returns-3 c =
 
 returns-4 : tie.Need-returns-4
 returns-4 c =
-    let run = c .before .before .before in
+    let d = c .before .before .before in
+    let run = d .before .before in
     let n = run .before in
     let w = n .before in
     let i = w .before in
     let e = i .before .before in
     let a = begun e .args in
-    hashed-straight (a .self) (whole (begun e)) (good e) (a .input .now) (i .if2 .left) (few (begun e)) (w .to-words .ensures) (n .last-node-of .ensures) (run .compress1-loop .ensures) (c .from-words .ensures)
+    hashed-straight (a .self) (whole (begun e)) (good e) (a .input .now) (i .if2 .left) (few (begun e)) (w .to-words .ensures) (n .last-node-of .ensures)
+    (run .compress1-loop .ensures) (c .from-state .ensures ∙ ap (λ (b : List ℕ). madeFrom b (a .self .«hash_length»)) (d .write-words .ensures))
 
 pub hash-spec : {M : Type 1} → statement M
-hash-spec = tie.close (tie.spec (λ c κs. search needs) (λ c κs. search needs) returns (λ c κs. search needs) (λ c κs. search needs) (λ c κs. search needs) returns-2 (λ c κs. search needs) returns-3 (λ c κs. search needs) (λ c κs. search needs) (λ c κs. search needs) (λ c. search needs) (λ c κs. search needs) returns-4)
+hash-spec =
+    tie.close
+    (tie.spec
+    (λ c κs. search needs)
+    (λ c κs. search needs)
+    returns
+    (λ c κs. search needs)
+    (λ c κs. search needs)
+    (λ c κs. search needs)
+    returns-2
+    (λ c κs. search needs)
+    returns-3
+    (λ c κs. search needs)
+    (λ c κs. search needs)
+    (λ c κs. search needs)
+    (λ c κs. search needs)
+    (λ c. search needs)
+    (λ c. search needs)
+    (λ c κs. search needs)
+    returns-4)

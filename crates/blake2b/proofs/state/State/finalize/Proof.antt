@@ -28,6 +28,9 @@ sized c = search needs
 ranged : (c : tie.Else1) → Kept member (c .before .before .args .self)
 ranged c = kept member (c .before .before .args .self) (c .before .range-of .ensures) (c .if1 .left)
 
+state-long : (c : tie.After-write-words) → length (c .write-words .result) ≡ 64
+state-long c = search needs
+
 returns : tie.Need-returns
 unfolding finalized
 returns c =
@@ -59,15 +62,31 @@ compress1-loop-requires c κs =
 returns-2 : tie.Need-returns-2
 unfolding pending finalized
 returns-2 c =
-    let run = c .before .before .before in
+    let w = c .before .before .before in
+    let run = w .before .before in
     let n = run .before in
     let i = n .before .before .before .before in
     let r = ranged i in
     let s = i .before .before .args .self in
     passed _ _ _ (i .before .range-of .ensures) (i .if1 .left)
-    (made-hash (s .«hash_length») _ (digest-length-is (s .«hash_length») (r .least) (r .most)) (c .from-words .ensures)
+    (made-hash (s .«hash_length») _ (digest-length-is (s .«hash_length») (r .least) (r .most)) (state-long w) (c .from-state .ensures)
+    ∙ ap (λ (d : List ℕ). reads .made (take (s .«hash_length») d)) (w .write-words .ensures)
     ∙ ap (λ (w : List ℕ). reads .made (take (s .«hash_length») (stateBytes BLAKE2b w)))
     (run .compress1-loop .ensures ∙ (λ j. throughBlocks BLAKE2b 128 (s .words) (s .count) true ((ap isLastNode (n .last-node-of .ensures) ∙ last-node-is (s .«last_node»)) j) (state.pending s))))
 
 pub finalize-spec : {M : Type 1} → statement M
-finalize-spec = tie.close (tie.spec (λ c κs. search needs) (λ c κs. search needs) returns array-share-prefix-b slice-aggregate-compress1-loop (λ c κs. search needs) compress1-loop-requires (λ c. search needs) (λ c κs. search needs) returns-2)
+finalize-spec =
+    tie.close
+    (tie.spec
+    (λ c κs. search needs)
+    (λ c κs. search needs)
+    returns
+    array-share-prefix-b
+    slice-aggregate-compress1-loop
+    (λ c κs. search needs)
+    compress1-loop-requires
+    (λ c κs. search needs)
+    (λ c. search needs)
+    (λ c. search needs)
+    (λ c κs. search needs)
+    returns-2)

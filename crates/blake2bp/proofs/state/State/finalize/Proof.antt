@@ -7,6 +7,7 @@ use native.Mathlib.Omega.{arith}
 use lib.ListN.{length, take, length-take}
 use Rattle.numbers.specs.Numbers.{limit}
 use Rattle.laws_states.specs.Buffer.{pending}
+use Rattle.laws_states.proofs.Trees.{length-rooted}
 use Rattle.hash.proofs.Digests.{digest-length-is, made-hash}
 use Rattle.members.proofs.Ranges.{Kept, kept}
 use Rattle.numbers.proofs.Picks.{passed, refused}
@@ -56,7 +57,7 @@ returns-2 c =
     let s = begun i .args .self in
     let r = ranged i in
     passed _ _ _ (i .before .range-of .ensures) (i .if1 .left)
-    (made-hash (s .«hash_length») _ (digest-length-is (s .«hash_length») (r .least) (r .most)) (c .finalize-root-words .ensures)
+    (made-hash (s .«hash_length») _ (digest-length-is (s .«hash_length») (r .least) (r .most)) (length-rooted BLAKE2b _ _) (c .finalize-root-words .ensures)
     ∙ ap (λ (ls : List Leaf). reads .made (take (s .«hash_length») (rooted BLAKE2b (s .«root_words») (map wordsOf ls)))) (rw (sub-zero (s .«buf_len»)) at (e .finish-leaves .ensures)))
 
 pub finalize-spec : {M : Type 1} → statement M

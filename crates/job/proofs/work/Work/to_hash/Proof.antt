@@ -1,9 +1,14 @@
 -- `job::work::Work::to_hash` meets its contract.
 -- Assumes nothing.
+use mathlib.Core.Path.{_≡_}
+use lib.ListN.{length}
 use Rattle.job.proofs.Works.{hash-bad, hash-unfinished, hash-finished}
 use borrow.Author.Needs.{needs}
 use Rattle.job.proofs.work.Work.to_hash.Statement.{statement}
 use Rattle.job.proofs.work.Work.to_hash.Tie as tie
+
+state-long : (c : tie.After-write-words) → length (c .write-words .result) ≡ 64
+state-long c = search needs
 
 returns : tie.Need-returns
 returns c =
@@ -19,10 +24,11 @@ returns-2 c =
 
 returns-3 : tie.Need-returns-3
 returns-3 c =
-    let f = c .before .before .before in
+    let d = c .before .before .before in
+    let f = d .before .before in
     let i = f .before .before in
     let r = i .before in
-    hash-finished (r .before .args .self) (r .before .args .length) (r .in-range .ensures) (i .if1 .left) (f .if2 .left) (c .from-words .ensures)
+    hash-finished (r .before .args .self) (r .before .args .length) (r .in-range .ensures) (i .if1 .left) (f .if2 .left) (state-long d) (d .write-words .ensures) (c .from-state .ensures)
 
 pub to-hash-spec : {M : Type 1} → statement M
 to-hash-spec =
@@ -33,6 +39,8 @@ to-hash-spec =
     returns
     (λ c κs. search needs)
     returns-2
+    (λ c κs. search needs)
+    (λ c. search needs)
     (λ c. search needs)
     (λ c κs. search needs)
     returns-3)

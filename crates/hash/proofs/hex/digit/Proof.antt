@@ -1,10 +1,10 @@
--- `hash::digit` meets its contract.
+-- `hash::hex::digit` meets its contract.
 -- Assumes nothing.
 use borrow.Author.Needs.{needs}
 use borrow.Author.Tests.{lt-ltb, le-ltb}
 use Rattle.hash.specs.Hash.{digitOf}
-use Rattle.hash.proofs.digit.Statement.{statement}
-use Rattle.hash.proofs.digit.Tie as tie
+use Rattle.hash.proofs.hex.digit.Statement.{statement}
+use Rattle.hash.proofs.hex.digit.Tie as tie
 
 add-result : tie.Need-add-result
 add-result c = search needs

@@ -1,4 +1,4 @@
--- `hash::put_hex` meets its contract.
+-- `hash::hex::put_hex` meets its contract.
 -- Assumes nothing.
 use mathlib.Core.Path.{_≡_, refl, ap, _∙_}
 use mathlib.Core.List.{List, flatMap}
@@ -11,8 +11,8 @@ use lib.Seq.{take-all}
 use Rattle.laws_words.specs.Bytes.{over}
 use Rattle.hash.specs.Hash.{hexOf}
 use Rattle.hash.proofs.Turns.{hex-more}
-use Rattle.hash.proofs.put_hex.Statement.{statement}
-use Rattle.hash.proofs.put_hex.Tie as tie
+use Rattle.hash.proofs.hex.put_hex.Statement.{statement}
+use Rattle.hash.proofs.hex.put_hex.Tie as tie
 
 abbrev Inv-loop : tie.InvT-loop
 Inv-loop bytes out₀ i₀ out i = (i ≤ length bytes) × (length out ≡ length out₀) × (out ≡ over (hexOf (take i bytes)) out₀)

@@ -1,4 +1,4 @@
--- `hash::same` meets its contract.
+-- `hash::comparison::same` meets its contract.
 -- Assumes nothing.
 use mathlib.Core.Path.{_≡_, refl, sym}
 use Prim.Native.Nat.{_-_, _≤_}
@@ -9,8 +9,8 @@ use lib.ListN.{length, drop}
 use Rattle.hash.specs.Hash.{sameBytes}
 use Rattle.hash.proofs.Digests.{other-length-differs}
 use Rattle.hash.proofs.Turns.{same-differ, same-agree, same-ended}
-use Rattle.hash.proofs.same.Statement.{statement}
-use Rattle.hash.proofs.same.Tie as tie
+use Rattle.hash.proofs.comparison.same.Statement.{statement}
+use Rattle.hash.proofs.comparison.same.Tie as tie
 
 abbrev Inv-loop : tie.InvT-loop
 Inv-loop a b i₀ i = (i ≤ length a) × (sameBytes a b ≡ sameBytes (drop i a) (drop i b))

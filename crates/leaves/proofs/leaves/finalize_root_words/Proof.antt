@@ -25,4 +25,4 @@ returns c =
     c .from-words .ensures ∙ ap (λ (w : List ℕ). madeFrom (stateBytes BLAKE2b w) (a .hash-length)) words
 
 pub finalize-root-words-spec : {M : Type 1} → statement M
-finalize-root-words-spec = tie.close (tie.spec (λ c κs. search needs) (λ c. search needs) (λ c κs. search needs) (λ c κs. search needs) returns)
+finalize-root-words-spec = tie.close (tie.spec (search needs) (search needs) (search needs) (search needs) returns)

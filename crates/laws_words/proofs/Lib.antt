@@ -2,5 +2,5 @@ pub mod Lists
 pub mod Rotate
 pub mod Bytes
 pub mod Stores
-pub mod Schedule
 pub mod Compression
+pub mod Parameters

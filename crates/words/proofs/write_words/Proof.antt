@@ -10,6 +10,7 @@ use lib.Pow.{shr-shr}
 use lib.ListN.{length, length-set}
 use lib.Seq.{ext-getD}
 use Rattle.definitions.specs.Words.{_!_, bytes}
+use Rattle.definitions.specs.Family.{BLAKE2b}
 use Rattle.definitions.specs.Hash.{stateBytes}
 use Rattle.laws_words.proofs.Bytes.{flat-at, bytes-at, length-flat}
 use Rattle.laws_words.proofs.Lists.{set-more}
@@ -17,13 +18,13 @@ use Rattle.words.proofs.write_words.Statement.{statement}
 use Rattle.words.proofs.write_words.Tie as tie
 
 abbrev Inv-loop2 : tie.InvT-loop2
-Inv-loop2 h out₀ i x₀ j₀ out x j = (j ≤ 8) × (length out ≡ 64) × (x ≡ h ! i / 2 ^ (8 * j)) × ((k : ℕ) → k < i * 8 + j → out ! k ≡ flatMap (bytes 8) h ! k)
+Inv-loop2 h out₀ i x₀ j₀ out x j = (j ≤ 8) × (length out ≡ 8 * BLAKE2b .ww) × (x ≡ h ! i / 2 ^ (8 * j)) × ((k : ℕ) → k < i * 8 + j → out ! k ≡ flatMap (bytes 8) h ! k)
 
 abbrev μ-loop2 : tie.MeasureT-loop2
 μ-loop2 h out₀ i x₀ j₀ out x j = 8 - j
 
 abbrev Inv-loop : tie.InvT-loop
-Inv-loop h out₀ i₀ out i = (i ≤ 8) × (length out ≡ 64) × ((k : ℕ) → k < i * 8 → out ! k ≡ flatMap (bytes 8) h ! k)
+Inv-loop h out₀ i₀ out i = (i ≤ 8) × (length out ≡ 8 * BLAKE2b .ww) × ((k : ℕ) → k < i * 8 → out ! k ≡ flatMap (bytes 8) h ! k)
 
 abbrev μ-loop : tie.MeasureT-loop
 μ-loop h out₀ i₀ out i = 8 - i
@@ -34,34 +35,10 @@ long c = search needs
 loop-holds : tie.Need-loop-holds Inv-loop2 μ-loop2 Inv-loop μ-loop
 loop-holds c = (omega arith, refl, λ k h. absurd (not-suc-le-zero h))
 
-mul-x : tie.Need-mul-x Inv-loop2 μ-loop2 Inv-loop μ-loop
-mul-x c = search needs
-
-array-read-x : tie.Need-array-read-x Inv-loop2 μ-loop2 Inv-loop μ-loop
-array-read-x c = search needs
-
 loop2-holds : tie.Need-loop2-holds Inv-loop2 μ-loop2 Inv-loop μ-loop
 loop2-holds c =
     let l = c .before .loop in
     (omega arith, l .inv .1, sym (div-one (c .before .before .args .t1 ! (l .i))), λ k h. l .inv .2 k (omega arith))
-
-mul-p : tie.Need-mul-p Inv-loop2 μ-loop2 Inv-loop μ-loop
-mul-p c = search needs
-
-add-p : tie.Need-add-p Inv-loop2 μ-loop2 Inv-loop μ-loop
-add-p c = search needs
-
-cast-out : tie.Need-cast-out Inv-loop2 μ-loop2 Inv-loop μ-loop
-cast-out c = search needs
-
-array-write-out : tie.Need-array-write-out Inv-loop2 μ-loop2 Inv-loop μ-loop
-array-write-out c = search needs
-
-add-j : tie.Need-add-j Inv-loop2 μ-loop2 Inv-loop μ-loop
-add-j c = search needs
-
-loop2-less : tie.Need-loop2-less Inv-loop2 μ-loop2 Inv-loop μ-loop
-loop2-less c = search needs
 
 loop2-again : tie.Need-loop2-again Inv-loop2 μ-loop2 Inv-loop μ-loop
 loop2-again c =
@@ -78,12 +55,6 @@ loop2-again c =
       λ k b. set-more (l .out) (i * 8 + j) (l .x % 256) (λ n. flatMap (bytes 8) h ! n) (omega arith) w (l .inv .3) k (omega arith),
     )
 
-add-i : tie.Need-add-i Inv-loop2 μ-loop2 Inv-loop μ-loop
-add-i c = search needs
-
-loop-less : tie.Need-loop-less Inv-loop2 μ-loop2 Inv-loop μ-loop
-loop-less c = search needs
-
 loop-again : tie.Need-loop-again Inv-loop2 μ-loop2 Inv-loop μ-loop
 loop-again c =
     let l = c .before .loop2 in
@@ -94,7 +65,7 @@ unfolding stateBytes
 returns c =
     let l = c .before .loop in
     let h = c .before .before .args .t1 in
-    let n : length (flatMap (bytes 8) h) ≡ 64 = length-flat 8 h ∙ ap (λ (n : ℕ). n * 8) (long (c .before .before)) in
+    let n : length (flatMap (bytes 8) h) ≡ 8 * BLAKE2b .ww = length-flat 8 h ∙ ap (λ (n : ℕ). n * 8) (long (c .before .before)) in
     ext-getD 0 (l .out) (flatMap (bytes 8) h) (l .inv .1 ∙ sym n) (λ k b. l .inv .2 k (omega arith))
 
 pub write-words-spec : {M : Type 1} → statement M
@@ -106,17 +77,10 @@ write-words-spec =
     Inv-loop
     μ-loop
     loop-holds
-    mul-x
-    array-read-x
+    (search needs) (search needs)
     loop2-holds
-    mul-p
-    add-p
-    cast-out
-    array-write-out
-    add-j
-    loop2-less
+    (search needs) (search needs) (search needs) (search needs) (search needs) (search needs)
     loop2-again
-    add-i
-    loop-less
+    (search needs) (search needs)
     loop-again
     returns)

@@ -16,7 +16,8 @@ use Rattle.laws_states.specs.Buffer as buffer
 use Rattle.laws_states.proofs.Buffers.{Sound}
 use Rattle.laws_states.proofs.TwoRows as rows
 use Rattle.numbers.specs.Numbers.{total-over}
-use Rattle.members.specs.Member.{isLength, totalOf, keyRow, Member, pending, pushed, total, inRange, closedDigest, reached, updated, finalized, counts, stateTaker}
+use Rattle.members.specs.Keeper.{isLength, totalOf, keyRow, Keeper, pending, pushed, total, inRange, closedDigest, updated, finalized, counts, stateTaker}
+use Rattle.members.specs.Member.{Member, limit, reached}
 use Rattle.members.proofs.Laws.{Laws, Begun}
 use Rattle.members.proofs.Pieces.{core-pieces, key-pieces, closed-pieces, total-pieces, range-pieces, next-is-pushed}
 use Rattle.members.proofs.Ranges.{ranged}
@@ -35,43 +36,41 @@ minus : (x y z : ℕ) → z ≡ x + y → z - x ≡ y
 minus x y z e = omega arith
 
 module _ {P S L : Type 0} (m : Member P S L) (laws : Laws m) (p : P) (begun : Begun m p) where
-  open Member m using (bounds, machine, core)
+  open Member m using (keeper)
+  open Keeper keeper using (bounds, machine, core)
 
-  abbrev limit : ℕ
-  limit = bounds .limit
-
-  key-within : (b : Bool) → (keyRow bounds b ≤ limit) × (keyRow bounds b ≤ bounds .room)
+  key-within : (b : Bool) → (keyRow bounds b ≤ limit m) × (keyRow bounds b ≤ bounds .room)
   key-within true = (laws .key-fits, laws .key-held)
   key-within false = (omega arith, omega arith)
 
   pub front-short : length (m .front p) ≤ bounds .room
-  front-short = let k = key-within (m .keyed (m .fresh p)) in omega (arith, begun .ahead-is, begun .front-is)
+  front-short = let k = key-within (keeper .keyed (m .fresh p)) in omega (arith, begun .ahead-is, begun .front-is)
 
-  pub ahead-within : m .ahead p ≤ limit
-  ahead-within = let k = key-within (m .keyed (m .fresh p)) in omega (arith, begun .ahead-is)
+  pub ahead-within : m .ahead p ≤ limit m
+  ahead-within = let k = key-within (keeper .keyed (m .fresh p)) in omega (arith, begun .ahead-is)
 
-  pub pending-fresh : pending m (m .fresh p) ≡ m .front p
+  pub pending-fresh : pending keeper (m .fresh p) ≡ m .front p
   unfolding buffer.pending pad
   pending-fresh = ap buffer.pending (laws .starts p) ∙ take-append-seam (m .front p) (replicate (bounds .room - length (m .front p)) 0)
 
   pub sound-fresh : Sound machine (core (m .fresh p))
   sound-fresh =
       rw (laws .starts p)
-      (record { sized = length-pad (bounds .room) (m .front p) front-short ∙ sym (laws .room); held = omega (arith, front-short, laws .room) })
+      (record { sized = length-pad (bounds .room) (m .front p) front-short ∙ sym (laws .keeper .room); held = omega (arith, front-short, laws .keeper .room) })
 
-  pub total-fresh : total m (m .fresh p) ≡ m .ahead p
+  pub total-fresh : total keeper (m .fresh p) ≡ m .ahead p
   total-fresh = ap (λ (h : Held L). totalOf bounds (h .count) (h .buflen)) (laws .starts p) ∙ omega (arith, begun .front-is)
 
-  pub range-fresh : inRange m (m .fresh p) ≡ true
+  pub range-fresh : inRange keeper (m .fresh p) ≡ true
   range-fresh =
       let s = m .fresh p in
       let t = total-fresh in
-      let d = length-bounds (m .hashLength s) (begun .asked) in
-      ranged bounds (m .hashLength s) (core s .buflen) (core s .count) (m .keyed s)
+      let d = length-bounds (keeper .hashLength s) (begun .asked) in
+      ranged bounds (keeper .hashLength s) (core s .buflen) (core s .count) (keeper .keyed s)
       (record {
         least = d .0;
         most = d .1;
-        held = omega (arith, sound-fresh .held, laws .room);
+        held = omega (arith, sound-fresh .held, laws .keeper .room);
         within = omega (arith, ahead-within);
         front = omega (arith, begun .ahead-is);
       })
@@ -83,43 +82,43 @@ module _ {P S L : Type 0} (m : Member P S L) (laws : Laws m) (p : P) (begun : Be
     abbrev s : S
     s = reached m p ps
 
-    pub total-reached : total m s ≡ m .ahead p + length (joined ps)
-    total-reached = total-pieces m laws (m .fresh p) ps sound-fresh ∙ ap (λ (n : ℕ). n + length (joined ps)) total-fresh
+    pub total-reached : total keeper s ≡ m .ahead p + length (joined ps)
+    total-reached = total-pieces keeper (laws .keeper) (m .fresh p) ps sound-fresh ∙ ap (λ (n : ℕ). n + length (joined ps)) total-fresh
 
     -- THE theorem: in any cuts, the digest is the paper's of the joined bytes
-    pub digest-of-pieces : closedDigest m s ≡ m .digest p (joined ps)
+    pub digest-of-pieces : closedDigest keeper s ≡ m .digest p (joined ps)
     digest-of-pieces =
-        closed-pieces m laws (m .fresh p) ps
-        ∙ (λ i. m .close (m .fresh p) (core (m .fresh p) .at) (laws .starts p i .count) (pending-fresh i ++ joined ps))
+        closed-pieces keeper (laws .keeper) (m .fresh p) ps
+        ∙ (λ i. keeper .close (m .fresh p) (core (m .fresh p) .at) (laws .starts p i .count) (pending-fresh i ++ joined ps))
         ∙ begun .digest-is (joined ps)
 
-    pub count-of-pieces : total m s - keyRow bounds (m .keyed s) ≡ length (joined ps)
+    pub count-of-pieces : total keeper s - keyRow bounds (keeper .keyed s) ≡ length (joined ps)
     count-of-pieces =
-        (λ i. total m s - (ap (keyRow bounds) (key-pieces m laws (m .fresh p) ps) ∙ sym (begun .ahead-is)) i)
-        ∙ minus (m .ahead p) (length (joined ps)) (total m s) total-reached
+        (λ i. total keeper s - (ap (keyRow bounds) (key-pieces keeper (laws .keeper) (m .fresh p) ps) ∙ sym (begun .ahead-is)) i)
+        ∙ minus (m .ahead p) (length (joined ps)) (total keeper s) total-reached
 
     -- behind the bytes that wait, the buffer is zero
-    pub zeros-behind : core s .buf ≡ pad (machine .room) (pending m s)
+    pub zeros-behind : core s .buf ≡ pad (machine .room) (pending keeper s)
     zeros-behind =
-        let filled = ap (λ (h : Held L). h .buf) (laws .starts p) ∙ (λ i. pad (sym (laws .room) i) (sym pending-fresh i)) in
-        rw (core-pieces m laws (m .fresh p) ps) (rows.zeros-behind machine (laws .lawful) (core (m .fresh p)) ps filled)
+        let filled = ap (λ (h : Held L). h .buf) (laws .starts p) ∙ (λ i. pad (sym (laws .keeper .room) i) (sym pending-fresh i)) in
+        rw (core-pieces keeper (laws .keeper) (m .fresh p) ps) (rows.zeros-behind machine (laws .keeper .lawful) (core (m .fresh p)) ps filled)
 
-    module _ (within : m .ahead p + length (joined ps) ≤ limit) where
-      pub range-reached : inRange m s ≡ true
-      range-reached = range-pieces m laws (m .fresh p) ps sound-fresh range-fresh (rw total-fresh within)
+    module _ (within : m .ahead p + length (joined ps) ≤ limit m) where
+      pub range-reached : inRange keeper s ≡ true
+      range-reached = range-pieces keeper (laws .keeper) (m .fresh p) ps sound-fresh range-fresh (rw total-fresh within)
 
       -- updates lead there
-      pub reached-by-updates : foldl (stateTaker m .next) (m .fresh p) ps ≡ s
-      reached-by-updates = next-is-pushed m laws (m .fresh p) ps sound-fresh range-fresh (rw total-fresh within)
+      pub reached-by-updates : foldl (stateTaker keeper .next) (m .fresh p) ps ≡ s
+      reached-by-updates = next-is-pushed keeper (laws .keeper) (m .fresh p) ps sound-fresh range-fresh (rw total-fresh within)
 
       module _ {A : Type 0} where
-        pub digest-reached : (ok : List ℕ → A) (bad : ℕ → A) → finalized m ok bad s ≡ ok (m .digest p (joined ps))
+        pub digest-reached : (ok : List ℕ → A) (bad : ℕ → A) → finalized keeper ok bad s ≡ ok (m .digest p (joined ps))
         digest-reached ok bad = rw range-reached (ap ok digest-of-pieces)
 
-        pub count-reached : (ok bad : ℕ → A) → counts m ok bad s ≡ ok (length (joined ps))
+        pub count-reached : (ok bad : ℕ → A) → counts keeper ok bad s ≡ ok (length (joined ps))
         count-reached ok bad = rw range-reached (ap ok count-of-pieces)
 
         -- an update, by the row's test
         pub update-reached : (ok : S → A) (bad : ℕ → A) (a : List ℕ)
-            → updated m ok bad s a ≡ cond (leb (m .ahead p + length (joined ps) + length a) limit) (ok (pushed m s a)) (bad total-over)
+            → updated keeper ok bad s a ≡ cond (leb (m .ahead p + length (joined ps) + length a) (limit m)) (ok (pushed keeper s a)) (bad total-over)
         update-reached ok bad a = rw (range-reached, total-reached)

@@ -1,4 +1,4 @@
--- What a member owes, and what parameters owe it for a state to begin. All that members have in common follows from these.
+-- What a keeper and a member owe, and what parameters owe for a state to begin. All that members have in common follows from these.
 -- Assumes nothing.
 use mathlib.Core.Path.{_≡_}
 use mathlib.Core.Bool.{true}
@@ -9,37 +9,41 @@ use Rattle.definitions.specs.Words.{pad}
 use Rattle.laws_states.specs.Buffer.{Held}
 use Rattle.laws_states.proofs.Buffers.{Lawful, Late}
 use Rattle.laws_states.proofs.Lifts.{Store}
-use Rattle.members.specs.Member.{isLength, keyRow, Member}
+use Rattle.members.specs.Keeper.{isLength, keyRow, Keeper}
+use Rattle.members.specs.Member.{Member, limit}
+
+pub record KeeperLaws {S L : Type 0} (k : Keeper S L) : Type 0 where
+  pub lawful : Lawful (k .machine)
+  pub room : k .machine .room ≡ k .bounds .room
+  pub whole : k .bounds .unit * k .machine .step ≡ k .machine .row
+  pub core-holding : (s : S) (h : Held L) → k .core (k .holding s h) ≡ h
+  pub holding-holding : (s : S) (h j : Held L) → k .holding (k .holding s h) j ≡ k .holding s j
+  pub holding-core : (s : S) → k .holding s (k .core s) ≡ s
+  pub same-length : (s : S) (h : Held L) → k .hashLength (k .holding s h) ≡ k .hashLength s
+  pub same-key : (s : S) (h : Held L) → k .keyed (k .holding s h) ≡ k .keyed s
+  pub same-close : (s : S) (h : Held L) → k .close (k .holding s h) ≡ k .close s
+  pub late : (s : S) → Late (k .machine) (k .close s)
 
 pub record Laws {P S L : Type 0} (m : Member P S L) : Type 0 where
-  pub lawful : Lawful (m .machine)
-  pub room : m .machine .room ≡ m .bounds .room
-  pub whole : m .bounds .unit * m .machine .step ≡ m .machine .row
-  pub key-fits : m .bounds .key ≤ m .bounds .limit
-  pub key-held : m .bounds .key ≤ m .bounds .room
-  pub core-holding : (s : S) (h : Held L) → m .core (m .holding s h) ≡ h
-  pub holding-holding : (s : S) (h k : Held L) → m .holding (m .holding s h) k ≡ m .holding s k
-  pub holding-core : (s : S) → m .holding s (m .core s) ≡ s
-  pub same-length : (s : S) (h : Held L) → m .hashLength (m .holding s h) ≡ m .hashLength s
-  pub same-key : (s : S) (h : Held L) → m .keyed (m .holding s h) ≡ m .keyed s
-  pub same-close : (s : S) (h : Held L) → m .close (m .holding s h) ≡ m .close s
-  pub late : (s : S) → Late (m .machine) (m .close s)
+  pub keeper : KeeperLaws (m .keeper)
+  pub key-fits : m .keeper .bounds .key ≤ limit m
+  pub key-held : m .keeper .bounds .key ≤ m .keeper .bounds .room
   -- a fresh state has counted nothing, and holds the front, with zeros behind it
   pub starts : (p : P)
-      → m .core (m .fresh p)
-      ≡ record { at = m .core (m .fresh p) .at; count = 0; buf = pad (m .bounds .room) (m .front p); buflen = length (m .front p) }
+      → m .keeper .core (m .fresh p)
+      ≡ record { at = m .keeper .core (m .fresh p) .at; count = 0; buf = pad (m .keeper .bounds .room) (m .front p); buflen = length (m .front p) }
 
 pub record Begun {P S L : Type 0} (m : Member P S L) (p : P) : Type 0 where
   pub good : m .good p ≡ true
-  pub asked : isLength (m .bounds .most) (m .hashLength (m .fresh p)) ≡ true
+  pub asked : isLength (m .keeper .bounds .most) (m .keeper .hashLength (m .fresh p)) ≡ true
   pub front-is : length (m .front p) ≡ m .ahead p
-  pub ahead-is : m .ahead p ≡ keyRow (m .bounds) (m .keyed (m .fresh p))
-  pub digest-is : (d : List ℕ) → m .close (m .fresh p) (m .core (m .fresh p) .at) 0 (m .front p ++ d) ≡ m .digest p d
+  pub ahead-is : m .ahead p ≡ keyRow (m .keeper .bounds) (m .keeper .keyed (m .fresh p))
+  pub digest-is : (d : List ℕ) → m .keeper .close (m .fresh p) (m .keeper .core (m .fresh p) .at) 0 (m .front p ++ d) ≡ m .digest p d
 
-abbrev pub store : {P S L : Type 0} (m : Member P S L) → Laws m → Store S L
-store m laws = record {
-  core = m .core;
-  holding = m .holding;
+abbrev pub store : {S L : Type 0} (k : Keeper S L) → KeeperLaws k → Store S L
+store k laws = record {
+  core = k .core;
+  holding = k .holding;
   core-holding = laws .core-holding;
   holding-holding = laws .holding-holding;
   holding-core = laws .holding-core;

@@ -13,12 +13,12 @@ use Rattle.laws_states.proofs.Buffers.{Sound}
 use Rattle.laws_states.proofs.Buffers as buffers
 use Rattle.laws_states.proofs.Steps as steps
 use Rattle.laws_states.proofs.TwoRows as two-rows
-use Rattle.members.specs.Member.{Member, pending, moved, pushed}
-use Rattle.members.proofs.Laws.{Laws}
+use Rattle.members.specs.Keeper.{Keeper, pending, moved, pushed}
+use Rattle.members.proofs.Laws.{KeeperLaws}
 
-module _ {P S L : Type 0} (m : Member P S L) (laws : Laws m) (s : S) where
-  open Member m using (machine, core, holding)
-  open Laws laws using (lawful, holding-core)
+module _ {S L : Type 0} (m : Keeper S L) (laws : KeeperLaws m) (s : S) where
+  open Keeper m using (machine, core, holding)
+  open KeeperLaws laws using (lawful, holding-core)
 
   -- the state with other parts
   abbrev pub parts : L → ℕ → List ℕ → ℕ → S

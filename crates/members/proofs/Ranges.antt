@@ -5,7 +5,7 @@ use mathlib.Core.Bool.{Bool, true, false, not, _&&_, and-eq-true-iff}
 use Prim.Native.Nat.{ℕ, _<_, _≤_}
 use borrow.Author.Tests.{not-true, not-false, le-leb, lt-leb, leb-true}
 use lib.Dec.{leb}
-use Rattle.members.specs.Member.{Bounds, isLength, totalOf, keyRow, rangeOf, Member, inRange}
+use Rattle.members.specs.Keeper.{Bounds, isLength, totalOf, keyRow, rangeOf, Keeper, inRange}
 
 module _ (z : Bounds) (n b t : ℕ) (keyed : Bool) where
   module _ {q : Bool} (e : q ≡ isLength (z .most) n) where
@@ -58,10 +58,10 @@ module _ (z : Bounds) (n b t : ℕ) (keyed : Bool) where
       rw (le-leb 1 n (r .least), le-leb n (z .most) (r .most), le-leb b (z .room) (r .held), le-leb (totalOf z t b) (z .limit) (r .within))
       (le-leb (keyRow z keyed) (totalOf z t b) (r .front))
 
--- of a member's state that passed the test
-module _ {P S L : Type 0} (m : Member P S L) (s : S) where
+-- of a state that passed the test
+module _ {S L : Type 0} (k : Keeper S L) (s : S) where
   abbrev pub Kept : Type 0
-  Kept = InRange (m .bounds) (m .hashLength s) (m .core s .buflen) (m .core s .count) (m .keyed s)
+  Kept = InRange (k .bounds) (k .hashLength s) (k .core s .buflen) (k .core s .count) (k .keyed s)
 
-  pub kept : {good : Bool} → good ≡ inRange m s → not good ≡ false → Kept
-  kept {good} e h = in-range (m .bounds) (m .hashLength s) (m .core s .buflen) (m .core s .count) (m .keyed s) (sym e ∙ not-false good h)
+  pub kept : {good : Bool} → good ≡ inRange k s → not good ≡ false → Kept
+  kept {good} e h = in-range (k .bounds) (k .hashLength s) (k .core s .buflen) (k .core s .count) (k .keyed s) (sym e ∙ not-false good h)

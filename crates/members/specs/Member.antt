@@ -1,161 +1,56 @@
--- A member of the family, as its calls see it: the state that holds a buffer, its bounds, its parameters, and what each call answers.
--- An answer is read by two functions, of what was accepted and of a refusal. Assumes nothing.
-use mathlib.Core.Bool.{Bool, cond, _&&_}
-use mathlib.Core.List.{List, [], _∷_, _++_, foldl}
-use Prim.Native.Nat.{ℕ, _+_, _-_, _*_}
+-- A member of the family: its keeper, and its parameters, which say how a state begins and what the paper's digest is; what opening a state and
+-- the hash of a whole message answer; and its row. Assumes nothing.
+use mathlib.Core.Bool.{Bool}
+use mathlib.Core.List.{List, [], _∷_, foldl}
+use Prim.Native.Nat.{ℕ, _+_}
 use lib.Dec.{leb}
 use lib.ListN.{length}
-use Rattle.laws_states.specs.Buffer.{Machine, Held}
-use Rattle.laws_states.specs.Buffer as buffer
 use Rattle.numbers.specs.Numbers.{accepted, total-over, bad-record}
 use Rattle.numbers.specs.Tests.{Test, test, tested}
-use Rattle.members.specs.Row.{Answer, digested, counted, Taker, Row}
+use Rattle.members.specs.Row.{Taker, Row}
 use Rattle.members.specs.Row as row
+use Rattle.members.specs.Keeper.{Keeper, Reads, pushed}
 
-pub record Bounds : Type 0 where
-  -- the longest digest; the bytes of the buffer; the bytes that came for each one counted; what a key adds to the total; the greatest total
-  pub most : ℕ
-  pub room : ℕ
-  pub unit : ℕ
-  pub key : ℕ
-  pub limit : ℕ
-
-abbrev pub isLength : ℕ → ℕ → Bool
-isLength most n = leb 1 n && leb n most
-
-module _ (z : Bounds) where
-  -- message bytes and key block bytes, of a count and the bytes buffered
-  abbrev pub totalOf : ℕ → ℕ → ℕ
-  totalOf count buflen = z .unit * count + buflen
-
-  abbrev pub keyRow : Bool → ℕ
-  keyRow keyed = cond keyed (z .key) 0
-
-  -- the ranges of refusal 14
-  unfoldable pub rangeOf : ℕ → ℕ → ℕ → Bool → Bool
-  rangeOf n b t keyed = isLength (z .most) n && (leb b (z .room) && (leb (totalOf t b) (z .limit) && leb (keyRow keyed) (totalOf t b)))
-
--- P are its parameters, S its states, and L is what its machine works on
+-- P are its parameters
 pub record Member (P S L : Type 0) : Type 0 where
-  pub bounds : Bounds
-  pub machine : Machine L
-  -- what a state buffers, and the state with something else in its place
-  pub core : S → Held L
-  pub holding : S → Held L → S
-  pub hashLength : S → ℕ
-  pub keyed : S → Bool
-  -- the digest that a state gives of what has gone, the count, and what waits
-  pub close : S → L → ℕ → List ℕ → List ℕ
-  -- parameters: their ranges, the state of no message bytes, the key blocks in front of the message, their number, and the paper's digest of a whole message
+  pub keeper : Keeper S L
+  -- whether parameters are in range, the state of no message bytes, the key blocks in front of the message, their number
   pub good : P → Bool
   pub fresh : P → S
   pub front : P → List ℕ
   pub ahead : P → ℕ
+  -- the paper's digest of a whole message
   pub digest : P → List ℕ → List ℕ
 
 module _ {P S L : Type 0} (m : Member P S L) where
-  open Member m using (bounds, machine, core, holding)
-
-  abbrev pub pending : S → List ℕ
-  pending s = buffer.pending (core s)
-
-  -- the state s with the bytes all in place of its pending ones, k rows of them gone
-  abbrev pub moved : S → List ℕ → ℕ → S
-  moved s all k = holding s (buffer.moved machine (core s) all k)
-
-  -- the state s once the bytes a came
-  abbrev pub pushed : S → List ℕ → S
-  pushed s a = holding s (buffer.pushed machine (core s) a)
-
-  abbrev pub total : S → ℕ
-  total s = totalOf bounds (core s .count) (core s .buflen)
-
-  abbrev pub inRange : S → Bool
-  inRange s = rangeOf bounds (m .hashLength s) (core s .buflen) (core s .count) (m .keyed s)
-
-  -- the digest of what has gone and what waits
-  abbrev pub closedDigest : S → List ℕ
-  closedDigest s = m .close s (core s .at) (core s .count) (pending s)
+  abbrev pub limit : ℕ
+  limit = m .keeper .bounds .limit
 
   -- the state of a message that came in these pieces
   abbrev pub reached : P → List (List ℕ) → S
-  reached p ps = foldl pushed (m .fresh p) ps
+  reached p ps = foldl (pushed (m .keeper)) (m .fresh p) ps
 
-  -- the tests of each call: 14 where the record is bad, 6 where the total would pass the limit
+  -- 14, then 6
   abbrev pub openTests : P → List Test
   openTests p = test (m .good p) bad-record ∷ []
 
-  abbrev pub askTests : S → List Test
-  askTests s = test (inRange s) bad-record ∷ []
-
-  abbrev pub updateTests : S → List ℕ → List Test
-  updateTests s a = test (inRange s) bad-record ∷ test (leb (total s + length a) (bounds .limit)) total-over ∷ []
-
   abbrev pub hashTests : P → List ℕ → List Test
-  hashTests p a = test (m .good p) bad-record ∷ test (leb (m .ahead p + length a) (bounds .limit)) total-over ∷ []
+  hashTests p a = test (m .good p) bad-record ∷ test (leb (m .ahead p + length a) limit) total-over ∷ []
 
   module _ {A : Type 0} where
     abbrev pub opened : (S → A) → (ℕ → A) → P → A
     opened ok bad p = tested (openTests p) (ok (m .fresh p)) bad
 
-    abbrev pub updated : (S → A) → (ℕ → A) → S → List ℕ → A
-    updated ok bad s a = tested (updateTests s a) (ok (pushed s a)) bad
-
-    abbrev pub finalized : (List ℕ → A) → (ℕ → A) → S → A
-    finalized ok bad s = tested (askTests s) (ok (closedDigest s)) bad
-
-    -- the message bytes that came
-    abbrev pub counts : (ℕ → A) → (ℕ → A) → S → A
-    counts ok bad s = tested (askTests s) (ok (total s - keyRow bounds (m .keyed s))) bad
-
     abbrev pub hashed : (List ℕ → A) → (ℕ → A) → P → List ℕ → A
     hashed ok bad p a = tested (hashTests p a) (ok (m .digest p a)) bad
 
-  -- the state: each call by its number and what it hands back
-  abbrev pub stateTaker : Taker S (List ℕ)
-  stateTaker = record {
-    number = λ s a. updated (λ t. accepted) (λ n. n) s a;
-    next = λ s a. updated (λ t. t) (λ n. s) s a;
-    digested = λ s. finalized (digested accepted) (λ n. digested n []) s;
-    counted = λ s. counts (counted accepted) (λ n. counted n 0) s;
-  }
+  module _ {U H C : Type 0} (r : Reads S U H C) where
+    abbrev pub open-answer : S → P → U
+    open-answer zero p = opened (r .state accepted) (λ n. r .state n zero) p
 
--- how a crate's records hold an answer: a state, a digest or none, a count; and what is read of them
-pub record Reads (S U H C : Type 0) : Type 0 where
-  pub state : ℕ → S → U
-  pub made : List ℕ → H
-  pub none : ℕ → H
-  pub count : ℕ → ℕ → C
-  pub numberOf : U → ℕ
-  pub stateOf : U → S
-  pub digestedOf : H → Answer
-  pub countedOf : C → Answer
+    abbrev pub one-shot-answer : P → List ℕ → H
+    one-shot-answer p a = hashed (r .made) (r .none) p a
 
--- the calls of a crate
-module _ {P S L U H C : Type 0} (m : Member P S L) (r : Reads S U H C) where
-  abbrev pub open-answer : S → P → U
-  open-answer zero p = opened m (r .state accepted) (λ n. r .state n zero) p
-
-  abbrev pub update-answer : S → List ℕ → U
-  update-answer s a = updated m (r .state accepted) (λ n. r .state n s) s a
-
-  abbrev pub hash-answer : S → H
-  hash-answer s = finalized m (r .made) (r .none) s
-
-  abbrev pub count-answer : S → C
-  count-answer s = counts m (r .count accepted) (λ n. r .count n 0) s
-
-  abbrev pub one-shot-answer : P → List ℕ → H
-  one-shot-answer p a = hashed m (r .made) (r .none) p a
-
-  abbrev pub taker : Taker S (List ℕ)
-  taker = record {
-    number = λ s a. r .numberOf (update-answer s a);
-    next = λ s a. r .stateOf (update-answer s a);
-    digested = λ s. r .digestedOf (hash-answer s);
-    counted = λ s. r .countedOf (count-answer s);
-  }
-
--- the row of a member: its total counts the key blocks, and its digest is the paper's
-abbrev pub rowTaker : {P S L : Type 0} → Member P S L → Taker (Row P) (List ℕ)
-rowTaker m = row.rowTaker (m .bounds .limit) (λ p bytes. m .ahead p + length bytes) (m .digest)
+  -- the row: its total counts the key blocks, and its digest is the paper's
+  abbrev pub rowTaker : Taker (Row P) (List ℕ)
+  rowTaker = row.rowTaker limit (λ p bytes. m .ahead p + length bytes) (m .digest)

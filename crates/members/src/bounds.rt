@@ -4,7 +4,7 @@ use numbers::LIMIT;
 ghost use mathlib.Core.Path.{_≡_};
 ghost use Prim.Native.Nat.{_<_};
 ghost use Rattle.numbers.specs.Numbers.{limit};
-ghost use Rattle.members.specs.Member.{isLength, rangeOf};
+ghost use Rattle.members.specs.Keeper.{isLength, rangeOf};
 
 fn is_length(most: usize, n: usize) -> bool
     ensures { λ r. ⌜ r ≡ isLength most n ⌝ }

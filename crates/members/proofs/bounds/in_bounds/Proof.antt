@@ -9,7 +9,7 @@ use borrow.Author.Needs.{needs}
 use borrow.Author.Tests.{le-leb}
 use lib.Dec.{leb}
 use Rattle.numbers.specs.Numbers.{limit}
-use Rattle.members.specs.Member.{Bounds, totalOf, keyRow, rangeOf}
+use Rattle.members.specs.Keeper.{Bounds, totalOf, keyRow, rangeOf}
 use Rattle.members.proofs.Ranges.{range-digest, range-overfull, range-over, range-last}
 use Rattle.members.proofs.bounds.in_bounds.Statement.{statement}
 use Rattle.members.proofs.bounds.in_bounds.Tie as tie

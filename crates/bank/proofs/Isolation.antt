@@ -13,10 +13,10 @@ use Rattle.numbers.specs.Numbers.{accepted, limit}
 use Rattle.members.specs.Row.{Answer, Row}
 use Rattle.blake2b.specs.Params.{keyOf}
 use Rattle.blake2b.specs.Row.{rowTaker}
-use Rattle.blake2b.specs.State.{total, stateInRange, updated}
+use Rattle.blake2b_state.specs.State.{total, stateInRange, updated}
 use Rattle.blake2b.specs.declared.params.Params.{Params}
-use Rattle.blake2b.specs.declared.state.State.{State}
-use Rattle.blake2b.specs.declared.state.StateAnswer.{StateAnswer}
+use Rattle.blake2b_state.specs.declared.state.State.{State}
+use Rattle.blake2b_state.specs.declared.state.StateAnswer.{StateAnswer}
 use Rattle.bank.specs.Rules.{Ask, Call, on, update-many, at, answers, after}
 use Rattle.bank.specs.Made.{All, Made}
 use Rattle.bank.specs.Apart.{Spared, ofSlot, answersOn, onlyOn}

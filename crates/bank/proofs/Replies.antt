@@ -12,14 +12,14 @@ use Rattle.laws_words.specs.Bytes.{zeros}
 use Rattle.numbers.specs.Numbers.{accepted, slot-closed, piece-outside, slot-open, pieceOk}
 use Rattle.hash.specs.Hash.{hashOf, digestOf, zeroHash}
 use Rattle.blake2b.specs.Params.{inRange}
-use Rattle.blake2b.specs.State.{stateInRange, closedDigest}
-use Rattle.blake2b.specs.State as state
+use Rattle.blake2b_state.specs.State.{stateInRange, closedDigest}
+use Rattle.blake2b_state.specs.State as state
 use Rattle.blake2b.specs.declared.params.Params.{Params}
 use Rattle.hash.specs.declared.Hash.{Hash}
 use Rattle.hash.specs.declared.HashAnswer.{HashAnswer}
-use Rattle.blake2b.specs.declared.state.State.{State}
-use Rattle.blake2b.specs.declared.state.StateAnswer.{StateAnswer}
-use Rattle.blake2b.specs.declared.state.CountAnswer.{CountAnswer}
+use Rattle.blake2b_state.specs.declared.state.State.{State}
+use Rattle.blake2b_state.specs.declared.state.StateAnswer.{StateAnswer}
+use Rattle.blake2b_state.specs.declared.state.CountAnswer.{CountAnswer}
 use Rattle.hash.proofs.Digests.{digest-of-hash}
 use Rattle.bank.specs.Rules.{placeFault, reply, fed, piece, opening, update, digest, count, close}
 use Rattle.bank.specs.Slots.{slotGood, slots, slotAnswer, hashAnswer, countAnswer}

@@ -14,7 +14,7 @@ use Rattle.hash.specs.Hash.{isDigestLength, hashInRange, hashOf, digestOf, writ
 use Rattle.hash.specs.declared.LengthAnswer.{LengthAnswer}
 use Rattle.hash.specs.declared.HashAnswer.{HashAnswer}
 use Rattle.hash.proofs.Digests.{digest-of-hash}
-use Rattle.blake2b.proofs.Lengths.{digest-sized}
+use Rattle.blake2b_state.proofs.Lengths.{digest-sized}
 use Rattle.members.specs.Row.{numbered}
 use Rattle.bank.specs.Rules.{digest, digest-to, on, refusal, written, reply, at, fault, step}
 use Rattle.bank.specs.Slots.{slots, slot-limit, told, hashAnswer, lengthAnswer}

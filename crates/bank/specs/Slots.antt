@@ -5,12 +5,13 @@ use Prim.Native.Nat.{ℕ}
 use lib.ListN.{replicate}
 use Rattle.members.specs.Row.{Answer}
 use Rattle.hash.specs.Hash.{hashOf}
-use Rattle.blake2b.specs.State.{stateInRange, zeroState, fresh}
+use Rattle.blake2b_state.specs.State.{stateInRange, zeroState}
+use Rattle.blake2b.specs.Member.{fresh}
 use Rattle.blake2b.specs.Row.{stateTaker}
 use Rattle.hash.specs.declared.HashAnswer.{HashAnswer}
 use Rattle.hash.specs.declared.LengthAnswer.{LengthAnswer}
-use Rattle.blake2b.specs.declared.state.State.{State}
-use Rattle.blake2b.specs.declared.state.CountAnswer.{CountAnswer}
+use Rattle.blake2b_state.specs.declared.state.State.{State}
+use Rattle.blake2b_state.specs.declared.state.CountAnswer.{CountAnswer}
 use Rattle.bank.specs.Rules.{Reply, Result, Kind, slotTaker, Call, step}
 use Rattle.bank.specs.declared.slot.Slot.{Slot}
 use Rattle.bank.specs.declared.slot.SlotAnswer.{SlotAnswer}

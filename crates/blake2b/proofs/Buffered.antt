@@ -10,11 +10,12 @@ use Rattle.laws_blocks.specs.Chain.{spare}
 use Rattle.laws_states.specs.Buffer as buffer
 use Rattle.laws_states.proofs.Tails.{rows-gone, bytes-held, tail-zero, exact-row-held}
 use Rattle.blake2b.specs.Params.{front}
-use Rattle.blake2b.specs.State.{core, machine, pending, pushed, fresh}
+use Rattle.blake2b_state.specs.State.{core, machine, pending, pushed}
+use Rattle.blake2b.specs.Member.{fresh}
 use Rattle.blake2b.specs.declared.params.Params.{Params}
 use lib.ListN.{replicate}
 use lib.Seq.{take-append-seam}
-use Rattle.blake2b.proofs.States.{lawful, tight}
+use Rattle.blake2b_state.proofs.States.{lawful, tight}
 use mathlib.Core.Path.{refl}
 
 pending-fresh : (p : Params) → pending (fresh p) ≡ front p

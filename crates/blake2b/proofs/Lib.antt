@@ -4,6 +4,4 @@ pub mod OneShot
 pub mod Plain
 pub mod Pushes
 pub mod Rows
-pub mod Lengths
-pub mod States
 pub mod Unique

@@ -20,12 +20,13 @@ use Rattle.hash.specs.declared.HashAnswer.{HashAnswer}
 use Rattle.laws_blocks.proofs.Sizes.{length-through}
 use Rattle.hash.proofs.Digests.{made-hash}
 use Rattle.blake2b.specs.Params.{defaults, inRange, asked, front}
-use Rattle.blake2b.specs.State.{lastNodeOf, fresh, updated, finalized, digest, hashed, reads, member}
+use Rattle.blake2b_state.specs.State.{keyFront, lastNodeOf, updated, finalized, reads}
+use Rattle.blake2b.specs.Member.{fresh, digest, hashed, member}
 use Rattle.blake2b.specs.declared.params.Params.{Params}
-use Rattle.blake2b.specs.declared.state.StateAnswer.{StateAnswer}
+use Rattle.blake2b_state.specs.declared.state.StateAnswer.{StateAnswer}
 use Rattle.blake2b.proofs.Cleaned.{good-defaults}
-use Rattle.blake2b.proofs.Pushes.{digest-asked, begun}
-use Rattle.blake2b.proofs.States.{laws, faithful, last-node-is}
+use Rattle.blake2b.proofs.Pushes.{laws, digest-asked, begun}
+use Rattle.blake2b_state.proofs.States.{faithful, last-node-is}
 
 module _ (p : Params) (whole : length (p .«key_block») ≡ 128) (good : inRange p ≡ true) (m : List ℕ) where
   -- through a state: a refusal of the update is that of the hash
@@ -43,7 +44,7 @@ module _ (p : Params) (whole : length (p .«key_block») ≡ 128) (good : inRang
       → w ≡ throughBlocks BLAKE2b 128 v 0 true (isLastNode n) m → r ≡ madeFrom (stateBytes BLAKE2b w) (p .«hash_length») → r ≡ hashed p m
   unfolding hashed
   hashed-straight none few {w} {v} e f k g =
-      let z : front p ≡ [] = unfold front in rw (lt-leb 1 (p .«key_length») (omega arith)) in
+      let z : front p ≡ [] = unfold keyFront in rw (lt-leb 1 (p .«key_length») (omega arith)) in
       promises.hashed-straight member laws reads faithful p (begun p whole good) m z few
       (made-hash (p .«hash_length») (stateBytes BLAKE2b w) (digest-asked p good)
       (ap (λ (x : List ℕ). length (stateBytes BLAKE2b x)) k ∙ length-through BLAKE2b 128 v 0 true _ m) g
@@ -56,5 +57,5 @@ module _ (p : Params) (whole : length (p .«key_block») ≡ 128) (good : inRang
 
 -- the default parameters are never refused
 pub hashed-defaults : (m : List ℕ) → length m ≤ limit → hashed defaults m ≡ record { number = accepted; hash = hashOf (digest defaults m) }
-unfolding hashed front
+unfolding hashed keyFront
 hashed-defaults m h = promises.hashed-within member laws reads faithful defaults (begun defaults (good-defaults .clean .whole) (good-defaults .ranged)) m (rw (zero-add (length m)) h)

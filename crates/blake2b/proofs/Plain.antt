@@ -16,7 +16,8 @@ use Rattle.numbers.specs.Numbers.{limit}
 use Rattle.hash.specs.Hash.{hashOf}
 use Rattle.hash.specs.declared.HashAnswer.{HashAnswer}
 use Rattle.blake2b.specs.Params.{defaults, asked, front}
-use Rattle.blake2b.specs.State.{fresh, updated, finalized, digest}
+use Rattle.blake2b_state.specs.State.{keyFront, plain, updated, finalized}
+use Rattle.blake2b.specs.Member.{fresh, digest}
 use Rattle.blake2b.proofs.Cleaned.{good-defaults}
 use Rattle.blake2b.proofs.OneShot.{hashed-defaults, one-shot-is-incremental}
 use Rattle.blake2b.proofs.Rows.{digest-is-hash}
@@ -41,7 +42,7 @@ digest-plain m = digest-is-hash defaults (good-defaults .clean) m ∙ hash-plain
 module _ (m : List ℕ) (few : length m ≤ limit) where
   -- there is no key block
   pub plain-within : length (front defaults) + length m ≤ limit
-  unfolding front
+  unfolding keyFront
   plain-within = omega arith
 
   -- a fresh state, one update, and then the digest
@@ -49,3 +50,8 @@ module _ (m : List ℕ) (few : length m ≤ limit) where
   finalized-plain =
       ap (λ (a : HashAnswer). a .hash) (sym (one-shot-is-incremental defaults (good-defaults .clean .whole) (good-defaults .ranged) m plain-within) ∙ hashed-defaults m few)
       ∙ ap hashOf (digest-plain m)
+
+-- the state that `State::new` makes is that of the default parameters
+pub new-is-default : plain ≡ fresh defaults
+unfolding start parameterBlock pad zeros
+new-is-default = refl

@@ -1,4 +1,4 @@
--- What parameters owe a state: the key block in front of the message, and RFC 7693's digest.
+-- BLAKE2b is a member: the laws of one, and what parameters owe a state, the key block in front of the message and RFC 7693's digest.
 -- Assumes nothing.
 use mathlib.Core.Path.{_≡_, refl}
 use mathlib.Core.Bool.{Bool, true, false, cond, _&&_, and-eq-true-iff}
@@ -12,42 +12,49 @@ use Rattle.definitions.proofs.Lengths.{length-pad}
 use Rattle.laws_states.specs.Buffer as buffer
 use Rattle.laws_states.proofs.Buffers.{Sound}
 use Rattle.laws_states.proofs.Buffers as buffers
+use Rattle.numbers.proofs.Limits.{wide}
 use Rattle.members.proofs.Closings.{one-digest}
-use Rattle.members.proofs.Laws.{Begun}
+use Rattle.members.proofs.Laws.{Laws, Begun}
 use Rattle.hash.specs.Hash.{isDigestLength}
+use Rattle.blake2b_state.specs.Sizes.{blockbytes, outbytes, keybytes}
+use Rattle.blake2b_state.specs.State.{keyFront, core, machine, pushed, total}
+use Rattle.blake2b_state.specs.declared.state.State.{State}
+use Rattle.blake2b_state.proofs.States.{lawful}
+use Rattle.blake2b_state.proofs.States as states
 use Rattle.blake2b.specs.Params.{inRange, asked, front}
-use Rattle.blake2b.specs.State.{core, machine, pushed, total, fresh, member}
+use Rattle.blake2b.specs.Member.{fresh, member}
 use Rattle.blake2b.specs.declared.params.Params.{Params}
-use Rattle.blake2b.specs.declared.state.State.{State}
-use Rattle.blake2b.proofs.States.{lawful}
+
+pub laws : Laws member
+laws = record { keeper = states.laws; key-fits = omega (arith, wide); key-held = omega arith; starts = λ p. refl }
 
 -- parameters in range ask for a digest length
 pub digest-asked : (p : Params) → inRange p ≡ true → isDigestLength (p .«hash_length») ≡ true
 unfolding inRange
-digest-asked p e = and-eq-true-iff (isDigestLength (p .«hash_length»)) (leb (p .«key_length») 64 && leb (p .«inner_hash_length») 64) .0 e .0
+digest-asked p e = and-eq-true-iff (isDigestLength (p .«hash_length»)) (leb (p .«key_length») keybytes && leb (p .«inner_hash_length») outbytes) .0 e .0
 
 pub total-pushed : (s : State) (a : List ℕ) → Sound machine (core s) → total (pushed s a) ≡ total s + length a
 unfolding buffer.tally
 total-pushed s a sound = buffers.tally-pushed machine lawful 1 refl (core s) a sound
 
-module _ (p : Params) (whole : length (p .«key_block») ≡ 128) where
-  pub length-front : length (front p) ≡ cond (leb 1 (p .«key_length»)) 128 0
-  unfolding front
+module _ (p : Params) (whole : length (p .«key_block») ≡ blockbytes) where
+  pub length-front : length (front p) ≡ cond (leb 1 (p .«key_length»)) blockbytes 0
+  unfolding keyFront
   length-front = split (leb 1 (p .«key_length»))
     where
-      split : (b : Bool) → length (cond b (p .«key_block») []) ≡ cond b 128 0
+      split : (b : Bool) → length (cond b (p .«key_block») []) ≡ cond b blockbytes 0
       split true = whole
       split false = refl
 
-  pub front-short : length (front p) ≤ 128
+  pub front-short : length (front p) ≤ blockbytes
   front-short = split (leb 1 (p .«key_length»)) length-front
     where
-      split : (b : Bool) → length (front p) ≡ cond b 128 0 → length (front p) ≤ 128
+      split : (b : Bool) → length (front p) ≡ cond b blockbytes 0 → length (front p) ≤ blockbytes
       split true e = omega arith
       split false e = omega arith
 
   pub sound-fresh : Sound machine (core (fresh p))
-  sound-fresh = record { sized = length-pad 128 (front p) front-short; held = front-short }
+  sound-fresh = record { sized = length-pad blockbytes (front p) front-short; held = front-short }
 
   pub begun : inRange p ≡ true → Begun member p
   begun good = record {

@@ -17,6 +17,7 @@ use Rattle.laws_states.proofs.Buffers as buffers
 use Rattle.numbers.specs.Numbers.{accepted, total-over, limit}
 use Rattle.numbers.proofs.Limits.{wide}
 use Rattle.members.specs.Row.{Call, answers, digested, counted, Row, row}
+use Rattle.members.specs.Keeper as keeping
 use Rattle.members.specs.Member as calls
 use Rattle.members.proofs.Alike.{Alike, alike-answers}
 use Rattle.members.proofs.Laws.{Begun}
@@ -24,13 +25,16 @@ use Rattle.members.proofs.Pieces as pieces
 use Rattle.members.proofs.Cuts as cuts
 use Rattle.members.proofs.Promises as promises
 use Rattle.blake2b.specs.Params.{inRange, asked, front, keyOf, withLastNode, Clean}
-use Rattle.blake2b.specs.State.{core, holding, machine, pushed, stateInRange, fresh, updated, finalized, lastNodeSet, closedDigest, reads, member}
-use Rattle.blake2b.specs.State as state
+use Rattle.blake2b_state.specs.State.{keyFront, keeper, core, holding, machine, pushed, stateInRange, updated, finalized, lastNodeSet, closedDigest, reads}
+use Rattle.blake2b.specs.Member.{fresh, member}
+use Rattle.blake2b.specs.Member as own
+use Rattle.blake2b_state.specs.State as state
 use Rattle.blake2b.specs.Row.{Change, update, set-last-node, stateTaker, rowTaker, stateCalls, rowCalls}
 use Rattle.blake2b.specs.declared.params.Params.{Params}
-use Rattle.blake2b.specs.declared.state.State.{State}
-use Rattle.blake2b.proofs.Pushes.{front-short, sound-fresh, begun}
-use Rattle.blake2b.proofs.States.{lawful, tight, laws, faithful}
+use Rattle.blake2b_state.specs.declared.state.State.{State}
+use Rattle.blake2b.proofs.Pushes.{laws, front-short, sound-fresh, begun}
+use Rattle.blake2b_state.proofs.States as states
+use Rattle.blake2b_state.proofs.States.{lawful, tight, faithful}
 
 -- the bytes of two updates are those of one
 pub pushed-pushed : (s : State) (a b : List ℕ) → pushed (pushed s a) b ≡ pushed s (a ++ b)
@@ -38,7 +42,7 @@ pushed-pushed s a b = ap (holding s) (buffers.pushed-pushed machine lawful tight
 
 -- no bytes change nothing
 pub pushed-none : (s : State) → Sound machine (core s) → pushed s [] ≡ s
-pushed-none s sound = pieces.pushed-none member laws s sound
+pushed-none s sound = pieces.pushed-none keeper states.laws s sound
 
 -- behind the key block, the message: what the definitions hash
 block-keyed : (n : ℕ) (b m : List ℕ) → length b ≡ 128 → b ≡ pad 128 (take n b) → cond (leb 1 n) b [] ++ m ≡ keyed BLAKE2b (take n b) m
@@ -48,11 +52,11 @@ block-keyed (suc n) [] m l e = absurd (omega arith)
 block-keyed (suc n) (x ∷ b) m l e = rw (le-leb 1 (suc n) (omega arith)) (ap (λ (d : List ℕ). d ++ m) e)
 
 pub front-keyed : (p : Params) → Clean p → (m : List ℕ) → front p ++ m ≡ keyed BLAKE2b (keyOf p) m
-unfolding front
+unfolding keyFront
 front-keyed p clean m = block-keyed (p .«key_length») (p .«key_block») m (clean .whole) (clean .filled)
 
 -- the digest is RFC 7693's
-pub digest-is-hash : (p : Params) → Clean p → (m : List ℕ) → state.digest p m ≡ hash BLAKE2b (asked p) (p .«last_node») (keyOf p) m
+pub digest-is-hash : (p : Params) → Clean p → (m : List ℕ) → own.digest p m ≡ hash BLAKE2b (asked p) (p .«last_node») (keyOf p) m
 unfolding hash
 digest-is-hash p clean m = ap (λ (d : List ℕ). take (p .«hash_length») (untruncated BLAKE2b (asked p) (p .«last_node») d)) (front-keyed p clean m)
 
@@ -95,15 +99,15 @@ module _ (r : Row Params) (reached : Reached r) where
 
   -- an update, by the row's test: the bytes of two are those of one
   by-test : {A : Type 0} (ok : State → A) (bad : ℕ → A) (a : List ℕ)
-      → calls.updated member ok bad (stateOf r) a ≡ cond (fits a) (ok (pushed (fresh p) (bytes ++ a))) (bad total-over)
+      → keeping.updated keeper ok bad (stateOf r) a ≡ cond (fits a) (ok (pushed (fresh p) (bytes ++ a))) (bad total-over)
   by-test ok bad a =
       let total = ap (λ (d : List ℕ). length (front p) + length d) (cuts.joined-one bytes) ∙ length-keyed in
       cuts.update-reached member laws p b (bytes ∷ []) one ok bad a
       ∙ (λ i. cond (leb (total i + length a) limit) (ok (pushed-pushed (fresh p) bytes a i)) (bad total-over))
 
-  same-taker : stateTaker ≡ calls.stateTaker member
+  same-taker : stateTaker ≡ keeping.stateTaker keeper
   unfolding updated finalized state.counted
-  same-taker = promises.same-taker member laws reads faithful
+  same-taker = promises.same-taker keeper reads faithful
 
   -- each call answers as the row's
   pub says-number : (a : List ℕ) → stateTaker .number (stateOf r) a ≡ rowTaker .number r a
@@ -119,7 +123,7 @@ module _ (r : Row Params) (reached : Reached r) where
   pub says-digest : stateTaker .digested (stateOf r) ≡ rowTaker .digested r
   says-digest =
       (λ i. same-taker i .digested (stateOf r)) ∙ cuts.digest-reached member laws p b (bytes ∷ []) one (digested accepted) (λ n. digested n [])
-      ∙ ap (λ (d : List ℕ). digested accepted (state.digest p d)) (cuts.joined-one bytes) ∙ ap (digested accepted) (digest-is-hash p (reached .clean) bytes)
+      ∙ ap (λ (d : List ℕ). digested accepted (own.digest p d)) (cuts.joined-one bytes) ∙ ap (digested accepted) (digest-is-hash p (reached .clean) bytes)
 
   -- the count is the number of message bytes, the key block not counted
   pub says-count : stateTaker .counted (stateOf r) ≡ rowTaker .counted r
@@ -140,11 +144,11 @@ module _ (r : Row Params) (reached : Reached r) where
 
   -- a flag that is set later is that of the parameters: digests from then on are those with it
   pub says-flag : (up : Bool) → lastNodeSet (stateOf r) up ≡ record { number = accepted; state = stateOf (row (withLastNode up p) bytes) }
-  unfolding lastNodeSet front
+  unfolding lastNodeSet keyFront
   says-flag up = rw range-reached
 
   pub flag-reached : (up : Bool) → Reached (row (withLastNode up p) bytes)
-  unfolding inRange front
+  unfolding inRange keyFront
   flag-reached up =
       record { clean = record { whole = reached .clean .whole; filled = reached .clean .filled }; good = reached .good; within = reached .within }
 

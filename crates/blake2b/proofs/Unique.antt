@@ -22,14 +22,14 @@ use Rattle.blake2b.proofs.params.Params.is_last_node.Reads as params-is
 use Rattle.blake2b.proofs.params.Params.to_words.Reads as params-to-words
 use Rattle.blake2b.proofs.params.Params.to_state.Reads as params-to-state
 use Rattle.blake2b.proofs.params.Params.hash.Reads as params-hash
-use Rattle.blake2b.proofs.state.State.new.Reads as state-new
-use Rattle.blake2b.proofs.state.State.zero.Reads as state-zero
-use Rattle.blake2b.proofs.state.State.in_range.Reads as state-in-range
-use Rattle.blake2b.proofs.state.State.update.Reads as state-update
-use Rattle.blake2b.proofs.state.State.finalize.Reads as state-finalize
-use Rattle.blake2b.proofs.state.State.set_last_node.Reads as state-set-last-node
-use Rattle.blake2b.proofs.state.State.count.Reads as state-count
-use Rattle.blake2b.proofs.state.blake2b.Reads as blake2b
+use Rattle.blake2b_state.proofs.state.State.new.Reads as state-new
+use Rattle.blake2b_state.proofs.state.State.zero.Reads as state-zero
+use Rattle.blake2b_state.proofs.state.State.in_range.Reads as state-in-range
+use Rattle.blake2b_state.proofs.state.State.update.Reads as state-update
+use Rattle.blake2b_state.proofs.state.State.finalize.Reads as state-finalize
+use Rattle.blake2b_state.proofs.state.State.set_last_node.Reads as state-set-last-node
+use Rattle.blake2b_state.proofs.state.State.count.Reads as state-count
+use Rattle.blake2b.proofs.one_shot.blake2b.Reads as blake2b
 
 pub params-new-unique : (κs : _) (args : _) (r q : _) (exit : _) → params-new.Post κs args r exit → params-new.Post κs args q exit → r ≡ q
 params-new-unique κs args r q exit e f = unique e f

@@ -1,4 +1,3 @@
-pub mod Sizes
 pub mod Params
-pub mod State
+pub mod Member
 pub mod Row

@@ -12,6 +12,7 @@ use Rattle.laws_words.specs.Bytes.{zeros}
 use Rattle.numbers.specs.Numbers.{accepted, digest-length, key-length, salt-length, personal-length, inner-length, bad-record}
 use Rattle.numbers.specs.Tests.{Test, test, tested}
 use Rattle.hash.specs.Hash.{isDigestLength}
+use Rattle.blake2b_state.specs.State.{keyFront}
 use Rattle.blake2b.specs.declared.params.Params.{Params}
 use Rattle.blake2b.specs.declared.params.ParamsAnswer.{ParamsAnswer}
 
@@ -124,8 +125,8 @@ asked p = record {
 }
 
 -- the key block in front of the message: none without a key
-unfoldable pub front : Params → List ℕ
-front p = cond (leb 1 (p .«key_length»)) (p .«key_block») []
+abbrev pub front : Params → List ℕ
+front p = keyFront (leb 1 (p .«key_length»)) (p .«key_block»)
 
 -- the key
 abbrev pub keyOf : Params → List ℕ

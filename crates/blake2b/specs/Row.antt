@@ -10,11 +10,11 @@ use Rattle.numbers.specs.Numbers.{accepted, limit}
 use Rattle.members.specs.Row.{Taker, Row, row, digested, counted}
 use Rattle.members.specs.Row as rows
 use Rattle.blake2b.specs.Params.{asked, keyOf, withLastNode}
-use Rattle.blake2b.specs.State.{updated, finalized, lastNodeSet}
-use Rattle.blake2b.specs.State as state
+use Rattle.blake2b_state.specs.State.{updated, finalized, lastNodeSet}
+use Rattle.blake2b_state.specs.State as state
 use Rattle.hash.specs.Hash.{digestOf}
 use Rattle.blake2b.specs.declared.params.Params.{Params}
-use Rattle.blake2b.specs.declared.state.State.{State}
+use Rattle.blake2b_state.specs.declared.state.State.{State}
 
 -- what changes a state: bytes that come, or another flag
 pub data Change : Type 0 where

@@ -1,5 +1,7 @@
-// The parameters: the defaults, a setter for each, and the words that a hash starts from.
+// The parameters: the defaults, a setter for each, the words that a hash starts from, and the state that starts from them.
 // A setter overwrites its whole field, so that nothing of an older value stays.
+use blake2b_state::State;
+use blake2b_state::StateAnswer;
 use guts::store;
 use hash::OUTBYTES;
 use hash::is_digest_length;
@@ -27,6 +29,7 @@ ghost use mathlib.Core.List.{[], _∷_};
 ghost use Rattle.numbers.specs.Tests.{test};
 ghost use Rattle.hash.specs.Hash.{isDigestLength};
 ghost use Rattle.blake2b.specs.Params.{defaults, inRange, asked, answered, withNumber, withKey, withSalt, withPersonal, withLastNode};
+ghost use Rattle.blake2b.specs.Member.{fresh, opened};
 ghost use Rattle.blake2b.specs.Params.{hash-length-at, fanout-at, max-depth-at, max-leaf-length-at, node-offset-at, node-depth-at, inner-hash-length-at};
 
 pub struct Params {
@@ -75,7 +78,7 @@ impl Params {
 
     pub const PERSONALBYTES: usize = 16;
 
-    pub const BLOCKBYTES: usize = 128;
+    pub const BLOCKBYTES: usize = portable::BLOCKBYTES;
 
     pub fn new() -> Self
         ensures { λ r. ⌜ r ≡ defaults ⌝ }
@@ -283,5 +286,37 @@ impl Params {
             salt,
             personal,
         )
+    }
+
+    // The state of no message bytes.
+    pub(crate) fn with_params(self) -> State
+        ensures { λ r. ⌜ r ≡ fresh self ⌝ }
+    {
+        let words = self.to_words();
+        let key_block = self.key_block;
+        State::begin(
+            words,
+            self.hash_length,
+            self.last_node,
+            self.is_keyed(),
+            key_block,
+        )
+    }
+
+    pub fn to_state(self) -> StateAnswer
+        ensures { λ r. ⌜ r ≡ opened self ⌝ }
+    {
+        if !self.in_range() {
+            let state = State::zero();
+            return StateAnswer {
+                number: RECORD,
+                state,
+            };
+        }
+        let state = self.with_params();
+        StateAnswer {
+            number: ACCEPTED,
+            state,
+        }
     }
 }

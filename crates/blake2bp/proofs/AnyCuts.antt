@@ -13,12 +13,12 @@ use Rattle.members.specs.Member.{reached}
 use Rattle.members.proofs.Cuts as cuts
 use Rattle.members.proofs.Promises as promises
 use Rattle.hash.specs.Hash.{hashOf}
-use Rattle.blake2bp.specs.State.{core, machine, pending, stateInRange, keyBytes, fresh, reads, updated, finalized, counted, digest, member}
+use Rattle.blake2bp.specs.State.{core, machine, pending, stateInRange, keyBytes, fresh, reads, updated, finalized, counted, digest, keeper, member}
 use Rattle.blake2bp.specs.declared.params.Params.{Params}
 use Rattle.blake2bp.specs.declared.state.State.{State}
 use Rattle.blake2bp.proofs.Cleaned.{Good}
 use Rattle.blake2bp.proofs.Pieces.{begun}
-use Rattle.blake2bp.proofs.States.{laws, faithful}
+use Rattle.blake2bp.proofs.States.{keeper-laws, laws, faithful}
 
 abbrev pub next : State → List ℕ → State
 next s a = updated s a .state
@@ -26,7 +26,7 @@ next s a = updated s a .state
 -- an update of no bytes changes nothing
 pub empty-changes-nothing : (s : State) → Sound machine (core s) → stateInRange s ≡ true → updated s [] ≡ record { number = accepted; state = s }
 unfolding updated
-empty-changes-nothing = promises.empty-changes-nothing member laws reads faithful
+empty-changes-nothing = promises.empty-changes-nothing keeper reads faithful keeper-laws
 
 module _ (p : Params) (good : Good p) (ps : List (List ℕ)) where
   -- behind the bytes that wait, the buffer is zero

@@ -3,7 +3,7 @@
 use mathlib.Core.Path.{_≡_}
 use mathlib.Core.Bool.{true}
 use Prim.Native.Nat.{_+_, _-_, _*_}
-use Rattle.members.specs.Member.{keyRow}
+use Rattle.members.specs.Keeper.{keyRow}
 use Rattle.blake2bp.specs.State.{bounds, stateInRange, counted, leafCounted, bufferedIn}
 use Rattle.blake2bp.specs.declared.state.State.{State}
 

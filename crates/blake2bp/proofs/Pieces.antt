@@ -15,7 +15,7 @@ use Rattle.laws_words.specs.Bytes.{zeros}
 use Rattle.laws_states.specs.Leaves.{rowOf, leafStarts, rootStart}
 use Rattle.laws_words.proofs.Stores.{pad-none}
 use Rattle.laws_states.proofs.Trees.{row-some, row-none}
-use Rattle.members.specs.Member.{keyRow}
+use Rattle.members.specs.Keeper.{keyRow}
 use Rattle.members.proofs.Laws.{Begun}
 use Rattle.members.proofs.Closings.{length-key-row, tree-closed, tree-digest}
 use Rattle.leaves.specs.Leaves.{leafOf, wordsOf, onLeaf}

@@ -13,13 +13,13 @@ use Rattle.laws_states.proofs.Buffers.{Sound}
 use Rattle.laws_states.proofs.Buffers as buffers
 use Rattle.numbers.specs.Numbers.{accepted, limit}
 use Rattle.blake2bp.specs.Params.{defaults}
-use Rattle.blake2bp.specs.State.{core, bounds, machine, member, pending, total, stateInRange, fresh, reads, updated, leafCounted, bufferedIn}
+use Rattle.blake2bp.specs.State.{core, bounds, machine, keeper, member, pending, total, stateInRange, fresh, reads, updated, leafCounted, bufferedIn}
 use Rattle.blake2bp.specs.declared.state.State.{State}
 use Rattle.blake2bp.proofs.AnyCuts.{next}
 use Rattle.blake2bp.proofs.Cleaned.{good-defaults}
 use Rattle.blake2bp.proofs.Pieces.{front-plain, begun}
-use Rattle.blake2bp.proofs.States.{lawful, laws}
-use Rattle.members.specs.Member.{totalOf, rangeOf}
+use Rattle.blake2bp.proofs.States.{lawful, keeper-laws, laws}
+use Rattle.members.specs.Keeper.{totalOf, rangeOf}
 use Rattle.members.proofs.Cuts.{sound-fresh}
 use Rattle.members.proofs.Pieces.{updated-pushed}
 use Rattle.members.proofs.Ranges.{ranged}
@@ -59,7 +59,7 @@ more h c n s a g e few within =
     let l : length (pending s ++ a) ≡ h + n = length-append (pending s) a ∙ (λ i. p i + e i) in
     let k : gone machine (length (pending s)) (length (pending s ++ a)) ≡ gone machine h (h + n) = λ i. gone machine (p i) (l i) in
     let t : total s + length a ≤ limit = omega (arith, g .held, g .counted, e, within) in
-    rw (updated-pushed member laws (reads .state accepted) (λ k. reads .state k s) s (in-range h c s g few (omega (arith, within))) a t, next)
+    rw (updated-pushed keeper keeper-laws (reads .state accepted) (λ k. reads .state k s) s (in-range h c s g few (omega (arith, within))) a t, next)
     (record {
       sound = buffers.sound-pushed machine lawful (core s) a (g .sound);
       held = λ i. l i - 512 * k i;

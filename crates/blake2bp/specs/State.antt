@@ -15,8 +15,10 @@ use Rattle.laws_states.specs.Leaves.{rooted, keyedRow, leafStarts, rootStart}
 use Rattle.numbers.specs.Numbers.{accepted, bad-record, limit}
 use Rattle.members.specs.Row.{digested}
 use Rattle.members.specs.Row as row
-use Rattle.members.specs.Member.{Bounds, Member, Reads, keyRow}
-use Rattle.members.specs.Member as calls
+use Rattle.members.specs.Keeper.{Bounds, Keeper, Reads, keyRow}
+use Rattle.members.specs.Keeper as calls
+use Rattle.members.specs.Member.{Member}
+use Rattle.members.specs.Member as members
 use Rattle.hash.specs.Hash.{hashOf, digestOf, noHash}
 use Rattle.hash.specs.declared.HashAnswer.{HashAnswer}
 use Rattle.leaves.specs.Leaves.{leafOf, wordsOf, onLeaf}
@@ -88,8 +90,8 @@ abbrev pub digest : Params → List ℕ → List ℕ
 digest p m = BLAKE2bp (p .«hash_length») (keyOf p) m
 
 -- at the end the leaves end, and the root takes their states
-abbrev pub member : Member Params State (List Leaf)
-member = record {
+abbrev pub keeper : Keeper State (List Leaf)
+keeper = record {
   bounds = bounds;
   machine = machine;
   core = core;
@@ -97,30 +99,28 @@ member = record {
   hashLength = λ s. s .«hash_length»;
   keyed = λ s. s .«is_keyed»;
   close = λ s l t d. take (s .«hash_length») (rooted BLAKE2b (s .«root_words») (map wordsOf (finished 128 onLeaf 4 l t d)));
-  good = inRange;
-  fresh = fresh;
-  front = front;
-  ahead = keyBytes;
-  digest = digest;
 }
 
+abbrev pub member : Member Params State (List Leaf)
+member = record { keeper = keeper; good = inRange; fresh = fresh; front = front; ahead = keyBytes; digest = digest }
+
 abbrev pub pending : State → List ℕ
-pending = calls.pending member
+pending = calls.pending keeper
 
 abbrev pub moved : State → List ℕ → ℕ → State
-moved = calls.moved member
+moved = calls.moved keeper
 
 abbrev pub pushed : State → List ℕ → State
-pushed = calls.pushed member
+pushed = calls.pushed keeper
 
 abbrev pub total : State → ℕ
-total = calls.total member
+total = calls.total keeper
 
 abbrev pub rangeOf : ℕ → ℕ → ℕ → Bool → Bool
 rangeOf = calls.rangeOf bounds
 
 abbrev pub stateInRange : State → Bool
-stateInRange = calls.inRange member
+stateInRange = calls.inRange keeper
 
 -- this crate's records of the answers
 abbrev pub reads : Reads State StateAnswer HashAnswer CountAnswer
@@ -136,19 +136,19 @@ reads = record {
 }
 
 unfoldable pub opened : Params → StateAnswer
-opened = calls.open-answer member reads zeroState
+opened = members.open-answer member reads zeroState
 
 unfoldable pub updated : State → List ℕ → StateAnswer
-updated = calls.update-answer member reads
+updated = calls.update-answer keeper reads
 
 unfoldable pub finalized : State → HashAnswer
-finalized = calls.hash-answer member reads
+finalized = calls.hash-answer keeper reads
 
 unfoldable pub counted : State → CountAnswer
-counted = calls.count-answer member reads
+counted = calls.count-answer keeper reads
 
 unfoldable pub hashed : Params → List ℕ → HashAnswer
-hashed = calls.one-shot-answer member reads
+hashed = members.one-shot-answer member reads
 
 -- what each leaf took
 unfoldable pub leafCounted : State → LeafCountAnswer

@@ -14,7 +14,7 @@ use Rattle.definitions.specs.Hash.{hash}
 use Rattle.numbers.specs.Numbers.{accepted, total-over, job-unfinished, bad-record, limit}
 use Rattle.hash.specs.Hash.{hashOf, noHash}
 use Rattle.blake2b.specs.Params.{inRange, asked, keyOf, Clean}
-use Rattle.blake2b.specs.State.{hashed}
+use Rattle.blake2b.specs.Member.{hashed}
 use Rattle.blake2b.specs.declared.params.Params.{Params}
 use Rattle.blake2b.proofs.Pushes.{length-front}
 use Rattle.blake2b.proofs.Rows.{digest-is-hash}

@@ -8,7 +8,7 @@ use blake2b::Params;
 use hash::HashAnswer;
 use job::Work;
 ghost use mathlib.Core.Path.{_≡_};
-ghost use Rattle.blake2b.specs.State.{hashed};
+ghost use Rattle.blake2b.specs.Member.{hashed};
 ghost use Rattle.held.specs.HeldJob.{madeJob, ranJob, jobHash};
 
 pub struct HashManyJob<'a> {

@@ -16,7 +16,7 @@ use Rattle.laws_blocks.proofs.Fronts.{through-behind}
 use Rattle.numbers.specs.Numbers.{accepted, job-unfinished, bad-record, limit}
 use Rattle.hash.specs.Hash.{hashOf, noHash}
 use Rattle.blake2b.specs.Params.{inRange, asked, front}
-use Rattle.blake2b.specs.State.{digest, hashed}
+use Rattle.blake2b.specs.Member.{digest, hashed}
 use Rattle.blake2b.specs.declared.params.Params.{Params}
 use Rattle.blake2b.proofs.Pushes.{digest-asked, length-front}
 use Rattle.job.specs.Work.{zeroWork, workInRange, finishedAtOnce, keyBytes, firstWords, begun, ran, runOn, workHash}
@@ -82,7 +82,7 @@ module _ (p : Params) (good : inRange p ≡ true) where
 
   module _ (whole : length (p .«key_block») ≡ 128) (m : List ℕ) (within : keyBytes p + length m ≤ limit) where
     begun-words : last-words m (begun p (length m)) ≡ throughBlocks BLAKE2b 128 (start BLAKE2b (asked p)) 0 true (p .«last_node») (front p ++ m)
-    unfolding firstWords keyBytes front
+    unfolding firstWords keyBytes keyFront
     begun-words = words-after (leb 1 (p .«key_length»)) (start BLAKE2b (asked p)) (p .«key_block») (p .«last_node») m whole
 
     pub run-digest : workHash (runOn m (begun p (length m))) (length m) ≡ record { number = accepted; hash = hashOf (digest p m) }

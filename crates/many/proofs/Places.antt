@@ -14,7 +14,7 @@ use Rattle.numbers.specs.Numbers.{accepted, job-unfinished, limit, pieceOk}
 use Rattle.numbers.proofs.Pieces.{inside}
 use Rattle.hash.specs.Hash.{hashOf, noHash}
 use Rattle.blake2b.specs.Params.{asked, keyOf, Clean}
-use Rattle.blake2b.specs.State.{hashed}
+use Rattle.blake2b.specs.Member.{hashed}
 use Rattle.blake2b.specs.declared.params.Params.{Params}
 use Rattle.blake2b.proofs.Rows.{digest-is-hash}
 use Rattle.job.specs.Work.{finishedAtOnce, keyBytes, begun, runOn, workHash}

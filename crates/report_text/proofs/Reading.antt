@@ -14,11 +14,11 @@ use Rattle.numbers.specs.Numbers.{accepted, total-over, limit}
 use Rattle.hash.specs.Hash.{digestOf}
 use Rattle.blake2b.specs.Params.{defaults}
 use Rattle.members.specs.Row.{Answer, Row, row}
-use Rattle.blake2b.specs.State.{stateInRange, updated, finalized, counted}
+use Rattle.blake2b_state.specs.State.{stateInRange, updated, finalized, counted}
 use Rattle.blake2b.specs.Row.{rowTaker}
 use Rattle.blake2b.specs.declared.params.Params.{Params}
-use Rattle.blake2b.specs.declared.state.State.{State}
-use Rattle.blake2b.specs.declared.state.StateAnswer.{StateAnswer}
+use Rattle.blake2b_state.specs.declared.state.State.{State}
+use Rattle.blake2b_state.specs.declared.state.StateAnswer.{StateAnswer}
 use Rattle.blake2b.proofs.Cleaned.{good-defaults}
 use Rattle.blake2b.proofs.Plain.{hash-plain, length-of-digest, plain-within}
 use Rattle.blake2b.proofs.Rows.{stateOf, Reached, range-reached, says-number, says-next, says-digest, says-count, opened-state}

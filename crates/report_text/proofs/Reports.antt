@@ -13,17 +13,17 @@ use Rattle.laws_words.specs.Bytes.{over}
 use Rattle.numbers.specs.Numbers.{accepted, bad-record}
 use Rattle.hash.specs.Hash.{hashInRange, digestOf, hexOf, lengthAnswered, writtenAnswered}
 use Rattle.hash.specs.Hash as hashes
-use Rattle.blake2b.specs.State.{stateInRange, updated, finalized, counted, closedDigest, bounds}
+use Rattle.blake2b_state.specs.State.{stateInRange, updated, finalized, counted, closedDigest, bounds}
 use Rattle.hash.specs.declared.Hash.{Hash}
 use Rattle.hash.specs.declared.HashAnswer.{HashAnswer}
 use Rattle.hash.specs.declared.LengthAnswer.{LengthAnswer}
-use Rattle.blake2b.specs.declared.state.State.{State}
-use Rattle.blake2b.specs.declared.state.StateAnswer.{StateAnswer}
-use Rattle.blake2b.specs.declared.state.CountAnswer.{CountAnswer}
+use Rattle.blake2b_state.specs.declared.state.State.{State}
+use Rattle.blake2b_state.specs.declared.state.StateAnswer.{StateAnswer}
+use Rattle.blake2b_state.specs.declared.state.CountAnswer.{CountAnswer}
 use Rattle.hash.proofs.Digests.{digest-length-bounds, hash-in-range, length-hex, length-digest, length-known}
 use Rattle.hash.proofs.Outputs.{room-enough, answered-good, over-good}
 use Rattle.members.proofs.Ranges.{in-range}
-use Rattle.blake2b.proofs.Lengths.{length-closed-digest}
+use Rattle.blake2b_state.proofs.Lengths.{length-closed-digest}
 use Rattle.report_text.specs.Ascii.{ascii}
 use Rattle.report_text.specs.Lines.{decimal, line, lengthLines, fiveLines, unreadable, Appends}
 use Rattle.hash.specs.Output.{wrote, wroteOver}

@@ -10,7 +10,8 @@ use Rattle.numbers.specs.Numbers.{accepted, bad-record}
 use Rattle.hash.specs.Hash.{digestOf}
 use Rattle.hash.specs.Output.{wrote, wroteOver}
 use Rattle.blake2b.specs.Params.{defaults}
-use Rattle.blake2b.specs.State.{stateInRange, fresh, updated, finalized, counted}
+use Rattle.blake2b_state.specs.State.{stateInRange, updated, finalized, counted}
+use Rattle.blake2b.specs.Member.{fresh}
 use Rattle.hash.specs.declared.LengthAnswer.{LengthAnswer}
 use Rattle.report_text.specs.Lines.{fiveLines, unreadable}
 use Rattle.report_text.specs.declared.report.Reading.{Reading}

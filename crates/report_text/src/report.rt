@@ -14,7 +14,7 @@ ghost use mathlib.Core.Bool.{true};
 ghost use Prim.Native.Nat.{_+_, _≤_};
 ghost use lib.ListN.{length};
 ghost use Rattle.hash.specs.Hash.{hashInRange, digestOf, hexOf};
-ghost use Rattle.blake2b.specs.State.{stateInRange};
+ghost use Rattle.blake2b_state.specs.State.{stateInRange};
 ghost use Rattle.report_text.specs.Ascii.{ascii};
 ghost use Rattle.report_text.specs.Lines.{line, lengthLines, fiveLines, Appends};
 ghost use Rattle.report_text.specs.Report.{begun, taken, failed, afterReading, linesOf, textAnswered, textOver};

@@ -12,9 +12,9 @@ use Rattle.definitions.specs.Hash.{blake2}
 use Rattle.numbers.specs.Numbers.{limit}
 use Rattle.hash.specs.declared.HashAnswer.{HashAnswer}
 use Rattle.hash.proofs.Outputs.{written-output}
-use Rattle.blake2b.specs.State.{updated, finalized}
-use Rattle.blake2b.specs.declared.state.State.{State}
-use Rattle.blake2b.specs.declared.state.StateAnswer.{StateAnswer}
+use Rattle.blake2b_state.specs.State.{updated, finalized}
+use Rattle.blake2b_state.specs.declared.state.State.{State}
+use Rattle.blake2b_state.specs.declared.state.StateAnswer.{StateAnswer}
 use Rattle.blake2b.proofs.Plain.{length-of-digest, finalized-plain}
 use Rattle.exports.proofs.sumpillow_state.Statement.{statement}
 use Rattle.exports.proofs.sumpillow_state.Tie as tie

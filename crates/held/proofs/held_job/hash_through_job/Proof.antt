@@ -29,7 +29,7 @@ use denote.Struct.Laws as LL
 use denote.Triple.Statement.{Contract, Triple}
 use denote.Triple.Entry.{Vals, onEntry}
 use denote.Triple.Table.{cited}
-use Rattle.blake2b.specs.State.{hashed}
+use Rattle.blake2b.specs.Member.{hashed}
 use Rattle.hash.specs.declared.HashAnswer.{HashAnswer}
 use Rattle.blake2b.specs.declared.params.Params.{Params}
 use Rattle.hash.proofs.HashAnswer as G

@@ -2,7 +2,7 @@
 -- Assumes nothing.
 use mathlib.Core.Path.{ap}
 use mathlib.Core.Bool.{false}
-use Rattle.blake2b.specs.declared.state.State.{State}
+use Rattle.blake2b_state.specs.declared.state.State.{State}
 use borrow.Author.Needs.{needs}
 use Rattle.bank.proofs.slot.Slot.closed.Statement.{statement}
 use Rattle.bank.proofs.slot.Slot.closed.Tie as tie

@@ -2,7 +2,7 @@
 -- Assumes nothing.
 use borrow.Author.Needs.{needs}
 use borrow.Author.Tests.{le-leb, lt-leb}
-use Rattle.blake2b.specs.Sizes.{outbytes}
+use Rattle.blake2b_state.specs.Sizes.{outbytes}
 use Rattle.blake2b.proofs.params.Params.inner_hash_length.Statement.{statement}
 use Rattle.blake2b.proofs.params.Params.inner_hash_length.Tie as tie
 

@@ -7,7 +7,7 @@ use borrow.Author.Tests.{le-leb, lt-leb}
 use denote.Ref.{now}
 use lib.ListN.{length}
 use Rattle.blake2b.specs.Params.{answered, withFields}
-use Rattle.blake2b.specs.Sizes.{keybytes}
+use Rattle.blake2b_state.specs.Sizes.{keybytes}
 use Rattle.blake2b.proofs.params.Params.key.Statement.{statement}
 use Rattle.blake2b.proofs.params.Params.key.Tie as tie
 

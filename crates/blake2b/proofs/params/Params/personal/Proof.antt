@@ -7,7 +7,7 @@ use borrow.Author.Tests.{le-leb, lt-leb}
 use denote.Ref.{now}
 use lib.ListN.{length}
 use Rattle.blake2b.specs.Params.{answered, withFields}
-use Rattle.blake2b.specs.Sizes.{fieldbytes}
+use Rattle.blake2b_state.specs.Sizes.{fieldbytes}
 use Rattle.blake2b.proofs.params.Params.personal.Statement.{statement}
 use Rattle.blake2b.proofs.params.Params.personal.Tie as tie
 

@@ -3,7 +3,8 @@
 use mathlib.Core.Path.{ap}
 use Rattle.numbers.specs.Numbers.{accepted, bad-record}
 use Rattle.numbers.proofs.Picks.{passed, refused}
-use Rattle.blake2b.specs.State.{reads, opened}
+use Rattle.blake2b_state.specs.State.{reads}
+use Rattle.blake2b.specs.Member.{opened}
 use borrow.Author.Needs.{needs}
 use Rattle.blake2b.proofs.params.Params.to_state.Statement.{statement}
 use Rattle.blake2b.proofs.params.Params.to_state.Tie as tie

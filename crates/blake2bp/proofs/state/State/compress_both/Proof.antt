@@ -4,8 +4,8 @@ use mathlib.Core.Path.{_≡_, refl}
 use native.Mathlib.Omega.{arith}
 use lib.ListN.{length}
 use Rattle.members.proofs.Moves.{both-gone}
-use Rattle.blake2bp.specs.State.{member}
-use Rattle.blake2bp.proofs.States.{laws}
+use Rattle.blake2bp.specs.State.{keeper}
+use Rattle.blake2bp.proofs.States.{keeper-laws}
 use borrow.Author.Needs.{needs}
 use Rattle.blake2bp.proofs.state.State.compress_both.Statement.{statement}
 use Rattle.blake2bp.proofs.state.State.compress_both.Tie as tie
@@ -23,7 +23,7 @@ returns : tie.Need-returns
 returns c =
     let z = c .before in
     let s = z .before .before .before .before .before .before in
-    both-gone member laws (s .args .self) (sized s) (s .pre .0) refl (z .before .compress-to-leaves .ensures) (z .zero-buffer .ensures)
+    both-gone keeper keeper-laws (s .args .self) (sized s) (s .pre .0) refl (z .before .compress-to-leaves .ensures) (z .zero-buffer .ensures)
 
 pub compress-both-spec : {M : Type 1} → statement M
 compress-both-spec = tie.close (tie.spec (λ c. search needs) compress-to-leaves-requires (λ c κs. search needs) (λ c. search needs) returns)

@@ -4,8 +4,8 @@ use mathlib.Core.Path.{_≡_, refl}
 use native.Mathlib.Omega.{arith}
 use lib.ListN.{length}
 use Rattle.members.proofs.Moves.{half-gone}
-use Rattle.blake2bp.specs.State.{member}
-use Rattle.blake2bp.proofs.States.{laws}
+use Rattle.blake2bp.specs.State.{keeper}
+use Rattle.blake2bp.proofs.States.{keeper-laws}
 use borrow.Author.Needs.{needs}
 use Rattle.blake2bp.proofs.state.State.compress_half.Statement.{statement}
 use Rattle.blake2bp.proofs.state.State.compress_half.Tie as tie
@@ -24,7 +24,7 @@ returns c =
     let t = c .before .before in
     let d = t .before .before .before .before .before in
     let s = d .before .before .before .before .before .before in
-    half-gone member laws (s .args .self) (sized s) (s .pre .0) refl (d .compress-to-leaves .ensures) (t .before .before .before .before .zero-buffer .ensures) (t .store .ensures)
+    half-gone keeper keeper-laws (s .args .self) (sized s) (s .pre .0) refl (d .compress-to-leaves .ensures) (t .before .before .before .before .zero-buffer .ensures) (t .store .ensures)
 
 pub compress-half-spec : {M : Type 1} → statement M
 compress-half-spec =

@@ -5,10 +5,10 @@ use mathlib.Core.Bool.{Bool}
 use Prim.Native.Nat.{_-_, _≤_}
 use native.Mathlib.Omega.{arith}
 use Rattle.numbers.specs.Numbers.{accepted, limit}
-use Rattle.members.specs.Member.{keyRow}
+use Rattle.members.specs.Keeper.{keyRow}
 use Rattle.members.proofs.Ranges.{Kept, kept}
 use Rattle.numbers.proofs.Picks.{passed, refused}
-use Rattle.blake2bp.specs.State.{total, bounds, reads, counted, member}
+use Rattle.blake2bp.specs.State.{total, bounds, reads, counted, keeper}
 use borrow.Author.Needs.{needs}
 use Rattle.blake2bp.proofs.state.State.count.Statement.{statement}
 use Rattle.blake2bp.proofs.state.State.count.Tie as tie
@@ -19,8 +19,8 @@ returns c =
     let i = c .before in
     refused _ _ _ (i .in-range .ensures) (c .if1 .taken) refl
 
-ranged : (c : tie.Else1) → Kept member (c .before .before .args .self)
-ranged c = kept member (c .before .before .args .self) (c .before .in-range .ensures) (c .if1 .left)
+ranged : (c : tie.Else1) → Kept keeper (c .before .before .args .self)
+ranged c = kept keeper (c .before .before .args .self) (c .before .in-range .ensures) (c .if1 .left)
 
 mul-all : tie.Need-mul-all
 unfolding limit

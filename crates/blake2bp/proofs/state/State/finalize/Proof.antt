@@ -15,7 +15,7 @@ use Rattle.definitions.specs.Family.{BLAKE2b}
 use Rattle.laws_states.specs.Leaves.{rooted}
 use Rattle.leaves.specs.Leaves.{wordsOf}
 use Rattle.leaves.specs.declared.leaves.Leaf.{Leaf}
-use Rattle.blake2bp.specs.State.{reads, finalized, member}
+use Rattle.blake2bp.specs.State.{reads, finalized, keeper}
 use borrow.Author.Needs.{needs}
 use Rattle.blake2bp.proofs.state.State.finalize.Statement.{statement}
 use Rattle.blake2bp.proofs.state.State.finalize.Tie as tie
@@ -26,8 +26,8 @@ sized c = search needs
 abbrev begun : tie.Else1 → tie.Start
 begun c = c .before .before
 
-ranged : (c : tie.Else1) → Kept member (begun c .args .self)
-ranged c = kept member (begun c .args .self) (c .before .range-of .ensures) (c .if1 .left)
+ranged : (c : tie.Else1) → Kept keeper (begun c .args .self)
+ranged c = kept keeper (begun c .args .self) (c .before .range-of .ensures) (c .if1 .left)
 
 returns : tie.Need-returns
 unfolding finalized

@@ -6,12 +6,12 @@ use native.Mathlib.Omega.{arith}
 use borrow.Author.Tests.{le-leb, lt-leb}
 use lib.ListN.{length}
 use Rattle.numbers.specs.Numbers.{accepted, limit}
-use Rattle.blake2bp.specs.State.{total, pushed, reads, updated, member}
+use Rattle.blake2bp.specs.State.{total, pushed, reads, updated, keeper}
 use Rattle.members.proofs.Ranges.{Kept, kept}
 use Rattle.numbers.proofs.Picks.{passed, refused, holds, fails}
 use Rattle.blake2bp.specs.declared.state.State.{State}
 use Rattle.members.proofs.Moves.{taken-long, taken-fill, taken-spill}
-use Rattle.blake2bp.proofs.States.{laws}
+use Rattle.blake2bp.proofs.States.{keeper-laws}
 use borrow.Author.Needs.{needs}
 use Rattle.blake2bp.proofs.state.State.update.Statement.{statement}
 use Rattle.blake2bp.proofs.state.State.update.Tie as tie
@@ -23,8 +23,8 @@ sized c = search needs
 abbrev begun : tie.Else1 → tie.Start
 begun c = c .before .before .before
 
-ranged : (c : tie.Else1) → Kept member (begun c .args .self)
-ranged c = kept member (begun c .args .self) (c .before .range-of .ensures) (c .if1 .left)
+ranged : (c : tie.Else1) → Kept keeper (begun c .args .self)
+ranged c = kept keeper (begun c .args .self) (c .before .range-of .ensures) (c .if1 .left)
 
 returns : tie.Need-returns
 unfolding updated
@@ -74,7 +74,7 @@ returns-3 c =
     let e = c .before .before in
     let i = passed-tests e in
     let a = begun i .args in
-    taken e (taken-long member laws (a .self) (a .input .now) (c .before .if3 .taken) (c .take-long .ensures))
+    taken e (taken-long keeper keeper-laws (a .self) (a .input .now) (c .before .if3 .taken) (c .take-long .ensures))
 
 sub-if4 : tie.Need-sub-if4
 sub-if4 c = ranged (passed-tests (c .before)) .held
@@ -89,7 +89,7 @@ returns-4 c =
     let i = passed-tests e in
     let a = begun i .args in
     let r = ranged i in
-    taken e (taken-fill member laws (a .self) (a .input .now) (record { sized = sized (begun i); held = r .held }) (omega (arith, t .before .if3 .left)) (omega (arith, r .held, t .if4 .taken)) (c .fill-buf .ensures))
+    taken e (taken-fill keeper keeper-laws (a .self) (a .input .now) (record { sized = sized (begun i); held = r .held }) (omega (arith, t .before .if3 .left)) (omega (arith, r .held, t .if4 .taken)) (c .fill-buf .ensures))
 
 spill-requires : tie.Need-spill-requires
 spill-requires c κs =
@@ -104,7 +104,7 @@ returns-5 c =
     let i = passed-tests e in
     let a = begun i .args in
     let r = ranged i in
-    taken e (taken-spill member laws (a .self) (a .input .now) (record { sized = sized (begun i); held = r .held }) (omega (arith, r .held, t .if4 .left)) (c .spill .ensures))
+    taken e (taken-spill keeper keeper-laws (a .self) (a .input .now) (record { sized = sized (begun i); held = r .held }) (omega (arith, r .held, t .if4 .left)) (c .spill .ensures))
 
 pub update-spec : {M : Type 1} → statement M
 update-spec = tie.close (tie.spec (λ c κs. search needs) returns mul-left sub-left sub-left-2 returns-2 take-long-requires returns-3 sub-if4 fill-buf-requires returns-4 spill-requires returns-5)

@@ -6,7 +6,7 @@ use native.Mathlib.Omega.{arith}
 use borrow.Author.Needs.{needs}
 use denote.Ref.{now}
 use lib.ListN.{length}
-use Rattle.blake2b.specs.State.{stateInRange}
+use Rattle.blake2b_state.specs.State.{stateInRange}
 use Rattle.report_text.proofs.Reports.{finalized-in-range, lines-unreadable, lines-readable}
 use Rattle.report_text.proofs.report.Report.lines.Statement.{statement}
 use Rattle.report_text.proofs.report.Report.lines.Tie as tie

@@ -3,7 +3,7 @@
 use mathlib.Core.Path.{ap}
 use mathlib.Core.Bool.{true}
 use borrow.Author.Needs.{needs}
-use Rattle.blake2b.specs.declared.state.State.{State}
+use Rattle.blake2b_state.specs.declared.state.State.{State}
 use Rattle.report_text.proofs.report.Report.new.Statement.{statement}
 use Rattle.report_text.proofs.report.Report.new.Tie as tie
 

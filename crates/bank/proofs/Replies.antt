@@ -12,6 +12,7 @@ use Rattle.laws_words.specs.Bytes.{zeros}
 use Rattle.numbers.specs.Numbers.{accepted, slot-closed, piece-outside, slot-open, pieceOk}
 use Rattle.hash.specs.Hash.{hashOf, digestOf, zeroHash}
 use Rattle.blake2b.specs.Params.{inRange}
+use Rattle.blake2b.specs.Member.{opened}
 use Rattle.blake2b_state.specs.State.{stateInRange, closedDigest}
 use Rattle.blake2b_state.specs.State as state
 use Rattle.blake2b.specs.declared.params.Params.{Params}
@@ -73,9 +74,9 @@ module _ (s : Slot) where
 
   -- a closed slot
   module _ (e : s .«is_open» ≡ false) where
-    pub closed-opened : (p : Params) → inRange p ≡ true → {a : StateAnswer} → a ≡ state.opened p
+    pub closed-opened : (p : Params) → inRange p ≡ true → {a : StateAnswer} → a ≡ opened p
         → record { number = accepted; slot = record { «is_open» = true; state = a .state } } ≡ slotAnswer (reply slots s (opening p))
-    unfolding reply state.opened
+    unfolding reply opened
     closed-opened p good f = rw (e, f, good)
 
     pub closed-updated : (d : List ℕ) → record { number = slot-closed; slot = s } ≡ slotAnswer (reply slots s (update d))

@@ -15,7 +15,7 @@ use Rattle.hash.proofs.Outputs.{written-output}
 use Rattle.blake2b_state.specs.State.{updated, finalized}
 use Rattle.blake2b_state.specs.declared.state.State.{State}
 use Rattle.blake2b_state.specs.declared.state.StateAnswer.{StateAnswer}
-use Rattle.blake2b.proofs.Plain.{length-of-digest, finalized-plain}
+use Rattle.blake2b.proofs.Plain.{new-is-default, length-of-digest, finalized-plain}
 use Rattle.exports.proofs.sumpillow_state.Statement.{statement}
 use Rattle.exports.proofs.sumpillow_state.Tie as tie
 
@@ -30,9 +30,10 @@ returns c =
     let n = u .before in
     let s = n .before .before .before in
     let m = now (s .args .input) in
-    let taken = u .update .ensures ∙ ap (λ (t : State). updated t m) (n .new .ensures) in
+    let taken = u .update .ensures ∙ ap (λ (t : State). updated t m) (n .new .ensures ∙ new-is-default) in
     let done = f .finalize .ensures ∙ ap (λ (t : StateAnswer). finalized (t .state)) taken in
-    written-output (blake2 BLAKE2b 64 [] m) (now (s .args .out)) 64 (omega arith) (omega arith) (length-of-digest m) (ap (λ (t : HashAnswer). t .hash) done ∙ finalized-plain m (few s)) (c .before .before .write-bytes .ensures)
+    written-output (blake2 BLAKE2b 64 [] m) (now (s .args .out)) 64 (omega arith) (omega arith) (length-of-digest m)
+    (ap (λ (t : HashAnswer). t .hash) done ∙ finalized-plain m (few s)) (c .before .before .write-bytes .ensures)
 
 pub sumpillow-state-spec : {M : Type 1} → statement M
 sumpillow-state-spec =

@@ -8,8 +8,9 @@ ghost use lib.ListN.{length};
 ghost use Rattle.definitions.specs.Words.{_!_};
 ghost use Rattle.definitions.specs.Family.{BLAKE2b};
 ghost use Rattle.definitions.specs.Compress.{ones, roundsTo, F};
+ghost use Rattle.definitions.specs.Schedule.{Order};
 ghost use Rattle.definitions.specs.Hash as Hash;
-ghost use Rattle.laws_words.specs.Halves.{Order, ordered, columnsOf, diagonalsOf, initial, foldHalves};
+ghost use Rattle.laws_words.specs.Halves.{ordered, columnsOf, diagonalsOf, initial, foldHalves};
 
 pub const IV: [u64; 8] = [
     0x6A09E667F3BCC908,
@@ -117,44 +118,45 @@ fn diagonals(v: [u64; 16], x: [u64; 16]) -> [u64; 16]
     ]
 }
 
-// The twelve rounds on the message words m, written out: with a row that is not a constant the table would be made anew at each use.
+// The twelve rounds on the message words m, written out: at a row that is not a constant the table would be made anew for each block.
 fn rounds(v0: [u64; 16], m: &[u64; 16]) -> [u64; 16]
     ensures { λ r. ⌜ r ≡ roundsTo BLAKE2b 12 (now (m .entry)) v0 ⌝ }
 {
-    let x0 = arranged(m, SIGMA[0]);
+    let table = SIGMA;
+    let x0 = arranged(m, table[0]);
     let c0 = columns(v0, x0);
     let v1 = diagonals(c0, x0);
-    let x1 = arranged(m, SIGMA[1]);
+    let x1 = arranged(m, table[1]);
     let c1 = columns(v1, x1);
     let v2 = diagonals(c1, x1);
-    let x2 = arranged(m, SIGMA[2]);
+    let x2 = arranged(m, table[2]);
     let c2 = columns(v2, x2);
     let v3 = diagonals(c2, x2);
-    let x3 = arranged(m, SIGMA[3]);
+    let x3 = arranged(m, table[3]);
     let c3 = columns(v3, x3);
     let v4 = diagonals(c3, x3);
-    let x4 = arranged(m, SIGMA[4]);
+    let x4 = arranged(m, table[4]);
     let c4 = columns(v4, x4);
     let v5 = diagonals(c4, x4);
-    let x5 = arranged(m, SIGMA[5]);
+    let x5 = arranged(m, table[5]);
     let c5 = columns(v5, x5);
     let v6 = diagonals(c5, x5);
-    let x6 = arranged(m, SIGMA[6]);
+    let x6 = arranged(m, table[6]);
     let c6 = columns(v6, x6);
     let v7 = diagonals(c6, x6);
-    let x7 = arranged(m, SIGMA[7]);
+    let x7 = arranged(m, table[7]);
     let c7 = columns(v7, x7);
     let v8 = diagonals(c7, x7);
-    let x8 = arranged(m, SIGMA[8]);
+    let x8 = arranged(m, table[8]);
     let c8 = columns(v8, x8);
     let v9 = diagonals(c8, x8);
-    let x9 = arranged(m, SIGMA[9]);
+    let x9 = arranged(m, table[9]);
     let c9 = columns(v9, x9);
     let v10 = diagonals(c9, x9);
-    let x10 = arranged(m, SIGMA[10]);
+    let x10 = arranged(m, table[10]);
     let c10 = columns(v10, x10);
     let v11 = diagonals(c10, x10);
-    let x11 = arranged(m, SIGMA[11]);
+    let x11 = arranged(m, table[11]);
     let c11 = columns(v11, x11);
     let v12 = diagonals(c11, x11);
     v12
@@ -171,6 +173,7 @@ fn flag_word(flag: bool) -> u64
 fn start(h: [u64; 8], count_low: u64, count_high: u64, last: u64, node: u64) -> [u64; 16]
     ensures { λ r. ⌜ r ≡ initial BLAKE2b h «count_low» «count_high» last node ⌝ }
 {
+    let iv = IV;
     [
         h[0],
         h[1],
@@ -180,14 +183,14 @@ fn start(h: [u64; 8], count_low: u64, count_high: u64, last: u64, node: u64) -> 
         h[5],
         h[6],
         h[7],
-        IV[0],
-        IV[1],
-        IV[2],
-        IV[3],
-        count_low ^ IV[4],
-        count_high ^ IV[5],
-        last ^ IV[6],
-        node ^ IV[7],
+        iv[0],
+        iv[1],
+        iv[2],
+        iv[3],
+        count_low ^ iv[4],
+        count_high ^ iv[5],
+        last ^ iv[6],
+        node ^ iv[7],
     ]
 }
 

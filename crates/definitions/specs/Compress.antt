@@ -22,6 +22,10 @@ SIGMA =
     ∷ (10 ∷ 2 ∷ 8 ∷ 4 ∷ 7 ∷ 6 ∷ 1 ∷ 5 ∷ 15 ∷ 11 ∷ 9 ∷ 14 ∷ 3 ∷ 12 ∷ 13 ∷ 0 ∷ [])
     ∷ []
 
+-- the row of round i
+abbrev pub row : ℕ → List ℕ
+row i = getD SIGMA (i % 10) []
+
 module _ (f : Family) where
   open Family f using (w, rounds, R1, R2, R3, R4, IV)
 
@@ -52,7 +56,7 @@ module _ (f : Family) where
   -- v after the rounds below n
   unfoldable pub roundsTo : ℕ → List ℕ → List ℕ → List ℕ
   roundsTo zero m v = v
-  roundsTo (suc i) m v = round (getD SIGMA (i % 10) []) m (roundsTo i m v)
+  roundsTo (suc i) m v = round (row i) m (roundsTo i m v)
 
   -- a word of ones where a flag is up
   unfoldable pub ones : Bool → ℕ

@@ -6,10 +6,10 @@ use mathlib.Core.List.{List, [], _∷_}
 use Prim.Native.Nat.{ℕ, suc, _+_, _*_, _/_, _%_, _^_, _<_}
 use native.Mathlib.Nat.{add-comm}
 use lib.Pow.{low, high}
-use lib.ListN.{getD, length}
+use lib.ListN.{length}
 use Rattle.definitions.specs.Words.{_!_}
 use Rattle.definitions.specs.Family.{Family}
-use Rattle.definitions.specs.Compress.{SIGMA, G, round, roundsTo, ones, F}
+use Rattle.definitions.specs.Compress.{row, G, round, roundsTo, ones, F}
 use Rattle.laws_words.specs.Halves.{ordered, mixed, columnsOf, diagonalsOf, initial, foldHalves}
 use Rattle.laws_words.proofs.Lists.{by-front}
 
@@ -45,7 +45,7 @@ module _ (f : Family) where
   round-is s m v = refl
 
   -- a round more: the message words in the order of its row, the columns and the diagonals
-  pub step : (i : ℕ) (m v0 : List ℕ) {s x y z v : List ℕ} → s ≡ getD SIGMA (i % 10) [] → v ≡ roundsTo f i m v0 → x ≡ ordered m s
+  pub step : (i : ℕ) (m v0 : List ℕ) {s x y z v : List ℕ} → s ≡ row i → v ≡ roundsTo f i m v0 → x ≡ ordered m s
       → y ≡ columnsOf f x v → z ≡ diagonalsOf f x y → z ≡ roundsTo f (suc i) m v0
   unfolding roundsTo
   step i m v0 {s} r p e g h =

@@ -2,5 +2,4 @@ pub mod Lists
 pub mod Rotate
 pub mod Bytes
 pub mod Stores
-pub mod Schedule
 pub mod Compression

@@ -4,7 +4,7 @@ use mathlib.Core.Path.{_≡_, refl, sym, ap, _∙_}
 use mathlib.Core.List.{List, [], _∷_, map}
 use mathlib.Core.Logic.{⊎-elim}
 use Prim.Native.Nat.{ℕ, zero, suc, _+_, _<_}
-use native.Mathlib.Nat.{not-suc-le-zero, le-of-suc-le-suc, add-zero, add-suc, suc-add, zero-add, eq-or-lt-of-le}
+use native.Mathlib.Nat.{le-of-suc-le-suc, eq-or-lt-of-le}
 use native.Mathlib.Omega.{arith}
 use lib.ListN.{length, drop, drop-of-length-le, set}
 use lib.Seq.{drop-cons, getD-set-same, getD-set-other}
@@ -34,22 +34,3 @@ set-more l i x g b e h k c =
     ⊎-elim (λ p. ap (λ (n : ℕ). set l i x ! n) p ∙ getD-set-same l i x 0 b ∙ e ∙ ap g (sym p))
     (λ p. getD-set-other l i k x 0 (λ q. omega arith) ∙ h k p)
     (eq-or-lt-of-le (le-of-suc-le-suc c))
-
-module _ {A : Type 0} where
-  unfoldable pub headOr : A → List A → A
-  headOr x [] = x
-  headOr x (y ∷ l) = y
-
-  unfoldable pub rest : List A → List A
-  rest [] = []
-  rest (x ∷ l) = l
-
-  -- two functions that give the same list of n values give the same value at each k below n: the list may be computed
-  each-from : (g h : ℕ → A) (i n : ℕ) → map g (from i n) ≡ map h (from i n) → (k : ℕ) → k < n → g (i + k) ≡ h (i + k)
-  unfolding headOr rest
-  each-from g h i zero e k b = absurd (not-suc-le-zero b)
-  each-from g h i (suc n) e zero b = rw add-zero (ap (headOr (g i)) e)
-  each-from g h i (suc n) e (suc k) b = rw add-suc (rw suc-add at (each-from g h (suc i) n (ap rest e) k (le-of-suc-le-suc b)))
-
-  pub each : (g h : ℕ → A) (n : ℕ) → map g (from 0 n) ≡ map h (from 0 n) → (k : ℕ) → k < n → g k ≡ h k
-  each g h n e k b = rw zero-add at (each-from g h 0 n e k b)

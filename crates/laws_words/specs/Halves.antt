@@ -1,11 +1,7 @@
 -- F in the pieces that code has: a round's two halves on ordered message words, the sixteen words at the start, the fold at the end.
 -- Assumes nothing; proofs/Compression.antt proves that they make F.
 use mathlib.Core.List.{List, [], _∷_, _++_, map}
-use Prim.Native.Nat.{ℕ, _+_, _<_}
-use lib.Dec.{eqb}
-use mathlib.Core.Bool.{cond}
-use mathlib.Core.Path.{_≡_}
-use lib.ListN.{length}
+use Prim.Native.Nat.{ℕ, _+_}
 use Rattle.definitions.specs.Words.{_⊕_, _!_, from}
 use Rattle.definitions.specs.Family.{Family}
 use Rattle.definitions.specs.Compress.{G}
@@ -17,17 +13,6 @@ ordered m s = map (λ i. m ! (s ! i)) (from 0 16)
 -- h[i] ^ v[i] ^ v[i + 8]
 unfoldable pub foldHalves : List ℕ → List ℕ → List ℕ
 foldHalves h v = map (λ i. h ! i ⊕ v ! i ⊕ v ! (i + 8)) (from 0 8)
-
--- how often k stands in s
-unfoldable pub times : ℕ → List ℕ → ℕ
-times k [] = 0
-times k (x ∷ s) = cond (eqb k x) 1 0 + times k s
-
--- s is an order of 0 to 15: sixteen numbers below 16, each of them once
-pub record Order (s : List ℕ) : Type 0 where
-  pub sixteen : length s ≡ 16
-  pub below : (i : ℕ) → s ! i < 16
-  pub once : (k : ℕ) → k < 16 → times k s ≡ 1
 
 module _ (f : Family) where
   open Family f using (IV)

@@ -5,3 +5,4 @@ pub mod Shares
 pub mod Calls
 pub mod Sizes
 pub mod Offsets
+pub mod Turns

@@ -3,3 +3,4 @@ pub mod Rotate
 pub mod Bytes
 pub mod Stores
 pub mod Compression
+pub mod Parameters

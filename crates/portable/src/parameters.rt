@@ -27,14 +27,15 @@ pub fn parameter_words(
         + depth as u64 * 0x100_0000
         + leaf_length as u64 * 0x1_0000_0000;
     let node = node_depth as u64 + inner_length as u64 * 0x100;
+    let iv = IV;
     [
-        lengths ^ IV[0],
-        node_offset ^ IV[1],
-        node ^ IV[2],
-        IV[3],
-        read_word(&salt, 0) ^ IV[4],
-        read_word(&salt, 8) ^ IV[5],
-        read_word(&personal, 0) ^ IV[6],
-        read_word(&personal, 8) ^ IV[7],
+        lengths ^ iv[0],
+        node_offset ^ iv[1],
+        node ^ iv[2],
+        iv[3],
+        read_word(&salt, 0) ^ iv[4],
+        read_word(&salt, 8) ^ iv[5],
+        read_word(&personal, 0) ^ iv[6],
+        read_word(&personal, 8) ^ iv[7],
     ]
 }

@@ -19,6 +19,6 @@ pub serial-run : (p : Parameters) (node : Bool) (d : List ℕ) {words : List ℕ
 serial-run p node d e = ap (stateBytes BLAKE2b) e ∙ sym (untruncated-through BLAKE2b (omega arith) p node d)
 
 pub leaf-run : (h : List ℕ) (node : Bool) (m : List ℕ) (i : ℕ) {words : List ℕ}
-    → words ≡ throughBlocks BLAKE2b (paddedBlockbytes Parallel) h 0 true node (drop (i * 128) m)
-    → words ≡ foldl (compress BLAKE2b) h (calls BLAKE2b node (share 128 4 m i))
+    → words ≡ throughBlocks BLAKE2b (paddedBlockbytes Parallel) h 0 true node (drop (i * BLAKE2b .bb) m)
+    → words ≡ foldl (compress BLAKE2b) h (calls BLAKE2b node (share (BLAKE2b .bb) 4 m i))
 leaf-run h node m i e = e ∙ sym (share-calls-through BLAKE2b (omega arith) 4 (omega arith) h node m i)

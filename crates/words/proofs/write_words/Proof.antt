@@ -10,6 +10,7 @@ use lib.Pow.{shr-shr}
 use lib.ListN.{length, length-set}
 use lib.Seq.{ext-getD}
 use Rattle.definitions.specs.Words.{_!_, bytes}
+use Rattle.definitions.specs.Family.{BLAKE2b}
 use Rattle.definitions.specs.Hash.{stateBytes}
 use Rattle.laws_words.proofs.Bytes.{flat-at, bytes-at, length-flat}
 use Rattle.laws_words.proofs.Lists.{set-more}
@@ -17,13 +18,13 @@ use Rattle.words.proofs.write_words.Statement.{statement}
 use Rattle.words.proofs.write_words.Tie as tie
 
 abbrev Inv-loop2 : tie.InvT-loop2
-Inv-loop2 h out₀ i x₀ j₀ out x j = (j ≤ 8) × (length out ≡ 64) × (x ≡ h ! i / 2 ^ (8 * j)) × ((k : ℕ) → k < i * 8 + j → out ! k ≡ flatMap (bytes 8) h ! k)
+Inv-loop2 h out₀ i x₀ j₀ out x j = (j ≤ 8) × (length out ≡ 8 * BLAKE2b .ww) × (x ≡ h ! i / 2 ^ (8 * j)) × ((k : ℕ) → k < i * 8 + j → out ! k ≡ flatMap (bytes 8) h ! k)
 
 abbrev μ-loop2 : tie.MeasureT-loop2
 μ-loop2 h out₀ i x₀ j₀ out x j = 8 - j
 
 abbrev Inv-loop : tie.InvT-loop
-Inv-loop h out₀ i₀ out i = (i ≤ 8) × (length out ≡ 64) × ((k : ℕ) → k < i * 8 → out ! k ≡ flatMap (bytes 8) h ! k)
+Inv-loop h out₀ i₀ out i = (i ≤ 8) × (length out ≡ 8 * BLAKE2b .ww) × ((k : ℕ) → k < i * 8 → out ! k ≡ flatMap (bytes 8) h ! k)
 
 abbrev μ-loop : tie.MeasureT-loop
 μ-loop h out₀ i₀ out i = 8 - i
@@ -94,7 +95,7 @@ unfolding stateBytes
 returns c =
     let l = c .before .loop in
     let h = c .before .before .args .t1 in
-    let n : length (flatMap (bytes 8) h) ≡ 64 = length-flat 8 h ∙ ap (λ (n : ℕ). n * 8) (long (c .before .before)) in
+    let n : length (flatMap (bytes 8) h) ≡ 8 * BLAKE2b .ww = length-flat 8 h ∙ ap (λ (n : ℕ). n * 8) (long (c .before .before)) in
     ext-getD 0 (l .out) (flatMap (bytes 8) h) (l .inv .1 ∙ sym n) (λ k b. l .inv .2 k (omega arith))
 
 pub write-words-spec : {M : Type 1} → statement M

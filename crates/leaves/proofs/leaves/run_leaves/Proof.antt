@@ -9,14 +9,15 @@ use Rattle.laws_states.specs.Deal.{each, leafThrough}
 use Rattle.laws_states.proofs.Deals.{leaf-turn}
 use Rattle.guts.specs.Guts.{finalizes}
 use Rattle.leaves.specs.Leaves.{onLeaf}
+use Rattle.leaves.proofs.Sizes.{degree, block}
 use Rattle.leaves.proofs.leaves.run_leaves.Statement.{statement}
 use Rattle.leaves.proofs.leaves.run_leaves.Tie as tie
 
 abbrev Inv-loop : tie.InvT-loop
-Inv-loop input count finalize leaves out₀ i₀ out i = (i ≤ 4) × (out ≡ each (leafThrough 128 onLeaf 4 (count .0) (finalizes finalize) input) 0 i out₀)
+Inv-loop input count finalize leaves out₀ i₀ out i = (i ≤ degree) × (out ≡ each (leafThrough block onLeaf degree (count .0) (finalizes finalize) input) 0 i out₀)
 
 abbrev μ-loop : tie.MeasureT-loop
-μ-loop input count finalize leaves out₀ i₀ out i = 4 - i
+μ-loop input count finalize leaves out₀ i₀ out i = degree - i
 
 loop-holds : tie.Need-loop-holds Inv-loop μ-loop
 unfolding each
@@ -28,14 +29,20 @@ run-leaf-requires c κs =
 
 loop-again : tie.Need-loop-again Inv-loop μ-loop
 loop-again c =
-    let l = c .before .before .before .before .before .loop in
-    let a = c .before .before .before .before .before .before .before .args in
-    (omega arith, leaf-turn 128 onLeaf (omega arith) 4 (omega arith) (a .t1) (a .count .0) (finalizes (a .finalize)) (a .input .now) (l .i) _ (search needs) (omega arith) (c .before .last-node-of .ensures) (c .before .before .offset-slice .ensures) (l .inv .1) (c .run-leaf .ensures))
+    let node = c .before in
+    let rest = node .before in
+    let head = rest .before .before .before in
+    let l = head .loop in
+    let a = head .before .before .args in (
+      omega arith,
+      leaf-turn block onLeaf (omega arith) degree (omega arith) (a .t1) (a .count .0) (finalizes (a .finalize)) (a .input .now) (l .i) _
+          (search needs) (omega arith) (node .last-node-of .ensures) (rest .offset-slice .ensures) (l .inv .1) (c .run-leaf .ensures),
+    )
 
 returns : tie.Need-returns Inv-loop μ-loop
 returns c =
     let l = c .before .loop in
-    let e : l .i ≡ 4 = omega arith in
+    let e : l .i ≡ degree = omega arith in
     rw e at (l .inv .1)
 
 pub run-leaves-spec : {M : Type 1} → statement M
@@ -45,15 +52,15 @@ run-leaves-spec =
     Inv-loop
     μ-loop
     loop-holds
-    (λ c. search needs)
-    (λ c. search needs)
-    (λ c. search needs)
-    (λ c κs. search needs)
-    (λ c κs. search needs)
+    (search needs)
+    (search needs)
+    (search needs)
+    (search needs)
+    (search needs)
     run-leaf-requires
-    (λ c. search needs)
-    (λ c. search needs)
-    (λ c. search needs)
-    (λ c. search needs)
+    (search needs)
+    (search needs)
+    (search needs)
+    (search needs)
     loop-again
     returns)

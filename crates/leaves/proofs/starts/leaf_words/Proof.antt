@@ -7,6 +7,7 @@ use borrow.Author.Needs.{needs}
 use lib.ListN.{replicate}
 use Rattle.laws_states.specs.Deal.{each}
 use Rattle.leaves.specs.declared.leaves.Leaf.{Leaf}
+use Rattle.leaves.proofs.Sizes.{degree}
 use Rattle.leaves.proofs.Turns.{leaf-start, start-turn, starts-made}
 use Rattle.leaves.proofs.starts.leaf_words.Statement.{statement}
 use Rattle.leaves.proofs.starts.leaf_words.Tie as tie
@@ -16,10 +17,10 @@ abbrev zero : Leaf
 zero = record { words = replicate 8 0 }
 
 abbrev Inv-loop : tie.InvT-loop
-Inv-loop hash-length key-length leaves₀ i₀ leaves i = (i ≤ 4) × (leaves ≡ each (leaf-start hash-length key-length) 0 i leaves₀)
+Inv-loop hash-length key-length leaves₀ i₀ leaves i = (i ≤ degree) × (leaves ≡ each (leaf-start hash-length key-length) 0 i leaves₀)
 
 abbrev μ-loop : tie.MeasureT-loop
-μ-loop hash-length key-length leaves₀ i₀ leaves i = 4 - i
+μ-loop hash-length key-length leaves₀ i₀ leaves i = degree - i
 
 loop-holds : tie.Need-loop-holds Inv-loop μ-loop
 unfolding each
@@ -29,13 +30,13 @@ loop-again : tie.Need-loop-again Inv-loop μ-loop
 loop-again c =
     let l = c .before .before .loop in
     let a = c .before .before .before .args in
-    (omega arith, start-turn (a .hash-length) (a .key-length) (l .i) (replicate 4 zero) zero (omega arith) (l .inv .1) (c .node-words .ensures))
+    (omega arith, start-turn (a .hash-length) (a .key-length) (l .i) (replicate degree zero) zero (omega arith) (l .inv .1) (c .node-words .ensures))
 
 returns : tie.Need-returns Inv-loop μ-loop
 returns c =
     let l = c .before .loop in
     let a = c .before .before .args in
-    let e : l .i ≡ 4 = omega arith in
+    let e : l .i ≡ degree = omega arith in
     rw e at (l .inv .1) ∙ starts-made (a .hash-length) (a .key-length) zero
 
 pub leaf-words-spec : {M : Type 1} → statement M

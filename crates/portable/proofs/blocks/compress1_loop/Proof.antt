@@ -25,12 +25,15 @@ abbrev μ-loop : tie.MeasureT-loop
 μ-loop input count row buf fin-last-block fin-last-node local-words₀ local-count₀ offset₀ local-words local-count offset =
     length input - offset
 
--- from the loop's head back to the entry and to the row, and from a compression to the facts on its block
-abbrev entered : tie.At-loop Inv-loop μ-loop → tie.Start Inv-loop μ-loop
-entered l = l .before .before .before .before .before .before .before .before .before .before .before
+-- from the loop's head back to the buffer, the row and the entry, and from a compression to the facts on its block
+abbrev padded : tie.At-loop Inv-loop μ-loop → tie.After-pad-final-block Inv-loop μ-loop
+padded l = l .before .before .before .before .before
 
 abbrev rowed : tie.At-loop Inv-loop μ-loop → tie.After-padded-blockbytes Inv-loop μ-loop
-rowed l = l .before .before .before .before .before .before .before .before .before
+rowed l = padded l .before .before .before .before
+
+abbrev entered : tie.At-loop Inv-loop μ-loop → tie.Start Inv-loop μ-loop
+entered l = rowed l .before .before
 
 abbrev row : tie.At-loop Inv-loop μ-loop → ℕ
 row l = rowed l .padded-blockbytes .result
@@ -43,10 +46,10 @@ faced c = c .before .before .before .before .before .before .before
 
 facts : (c : tie.After-final-facts Inv-loop μ-loop)
     → let left = length (drop (c .before .loop .offset) (input (c .before))) in
-    (c .final-facts .result .len ≡ min 128 left) × (c .final-facts .result .«may_finalize» ≡ leb left (row (c .before)))
+    (c .final-facts .result .len ≡ min (BLAKE2b .bb) left) × (c .final-facts .result .«may_finalize» ≡ leb left (row (c .before)))
 facts c = let e = c .final-facts .ensures in (ap (λ (r : FinalFacts). r .len) e, ap (λ (r : FinalFacts). r .«may_finalize») e)
 
-wide : (r : tie.After-padded-blockbytes Inv-loop μ-loop) → 128 ≤ r .padded-blockbytes .result
+wide : (r : tie.After-padded-blockbytes Inv-loop μ-loop) → BLAKE2b .bb ≤ r .padded-blockbytes .result
 wide r = rw (r .padded-blockbytes .ensures) (row-wide (r .before .before .args .stride))
 
 loop-holds : tie.Need-loop-holds Inv-loop μ-loop
@@ -54,12 +57,13 @@ loop-holds c =
     let p = c .before .before .before .before in
     let e = p .before .before in
     let z = e .before .zero-block in
-    begun (ready (omega arith) (wide (e .before .before)) (z .result) (ap length (z .ensures) ∙ length-zeros 128) (e .final-offset .ensures) (p .pad-final-block .ensures)) _ _
+    let long = ap length (z .ensures) ∙ length-zeros (BLAKE2b .bb) in
+    begun (ready (omega arith) (wide (e .before .before)) (z .result) long (e .final-offset .ensures) (p .pad-final-block .ensures)) _ _
 
 -- the turn that a compression ends
 turn : (c : tie.After-compress-block Inv-loop μ-loop)
     → let l = faced c .before in
-    Turned BLAKE2b (input l) (row l) (l .before .before .before .before .before .pad-final-block .last .1 .1 .0)
+    Turned BLAKE2b (input l) (row l) (padded l .pad-final-block .last .1 .1 .0)
     (entered l .args .count) (entered l .args .words) (l .before .before .before .yes .result) (l .before .both .result)
     (faced c .final-facts .result .«may_finalize») (c .compress-block .result) (l .loop .local-count + faced c .final-facts .result .len) (l .loop .offset)
 turn c =

@@ -9,10 +9,10 @@ use Rattle.portable.proofs.FirstWords.{numbers-are}
 use Rattle.portable.proofs.parameters.parameter_words.Statement.{statement}
 use Rattle.portable.proofs.parameters.parameter_words.Tie as tie
 
-salt-long : (c : tie.Start) → length (c .args .t9) ≡ 16
+salt-long : (c : tie.Start) → length (c .args .t9) ≡ BLAKE2b .saltBytes
 salt-long c = search needs
 
-personal-long : (c : tie.Start) → length (c .args .t10) ≡ 16
+personal-long : (c : tie.Start) → length (c .args .t10) ≡ BLAKE2b .saltBytes
 personal-long c = search needs
 
 returns : tie.Need-returns

@@ -2,6 +2,7 @@
 -- Assumes nothing.
 use denote.Ref.{now}
 use borrow.Author.Needs.{needs}
+use Rattle.definitions.specs.Family.{BLAKE2b}
 use Rattle.laws_words.proofs.Stores.{stored-padded}
 use Rattle.portable.proofs.widths.padded_block.Statement.{statement}
 use Rattle.portable.proofs.widths.padded_block.Tie as tie
@@ -10,7 +11,7 @@ returns : tie.Need-returns
 returns c =
     let st = c .before in
     let z = st .before .before in
-    stored-padded 128 (now (z .before .before .args .bytes)) (z .zero-block .ensures) (st .store .ensures)
+    stored-padded (BLAKE2b .bb) (now (z .before .before .args .bytes)) (z .zero-block .ensures) (st .store .ensures)
 
 pub padded-block-spec : {M : Type 1} → statement M
-padded-block-spec = tie.close (tie.spec (λ c κs. search needs) (λ c. search needs) (λ c κs. search needs) returns)
+padded-block-spec = tie.close (tie.spec (search needs) (search needs) (search needs) returns)

@@ -26,18 +26,6 @@ loop-holds c = (omega arith, refl, λ k h. absurd (not-suc-le-zero h))
 pick-requires : tie.Need-pick-requires Inv-loop μ-loop
 pick-requires c κs = (c .loop-test .taken, c .before .before .pre .below (c .before .loop .i))
 
-mul-x : tie.Need-mul-x Inv-loop μ-loop
-mul-x c = search needs
-
-array-write-x : tie.Need-array-write-x Inv-loop μ-loop
-array-write-x c = search needs
-
-add-i : tie.Need-add-i Inv-loop μ-loop
-add-i c = search needs
-
-loop-less : tie.Need-loop-less Inv-loop μ-loop
-loop-less c = search needs
-
 loop-again : tie.Need-loop-again Inv-loop μ-loop
 loop-again c =
     let l = c .before .before .loop in
@@ -62,9 +50,6 @@ arranged-spec =
     μ-loop
     loop-holds
     pick-requires
-    mul-x
-    array-write-x
-    add-i
-    loop-less
+    (search needs) (search needs) (search needs) (search needs)
     loop-again
     returns)

@@ -22,39 +22,6 @@ abbrev μ-loop : tie.MeasureT-loop
 loop-holds : tie.Need-loop-holds Inv-loop μ-loop
 loop-holds c = (omega arith, refl, λ k h. absurd (not-suc-le-zero h))
 
-add-j : tie.Need-add-j Inv-loop μ-loop
-add-j c = search needs
-
-mul-x : tie.Need-mul-x Inv-loop μ-loop
-mul-x c = search needs
-
-array-read-x : tie.Need-array-read-x Inv-loop μ-loop
-array-read-x c = search needs
-
-mul-x-2 : tie.Need-mul-x-2 Inv-loop μ-loop
-mul-x-2 c = search needs
-
-array-read-x-2 : tie.Need-array-read-x-2 Inv-loop μ-loop
-array-read-x-2 c = search needs
-
-mul-x-3 : tie.Need-mul-x-3 Inv-loop μ-loop
-mul-x-3 c = search needs
-
-array-read-x-3 : tie.Need-array-read-x-3 Inv-loop μ-loop
-array-read-x-3 c = search needs
-
-mul-x-4 : tie.Need-mul-x-4 Inv-loop μ-loop
-mul-x-4 c = search needs
-
-array-write-x : tie.Need-array-write-x Inv-loop μ-loop
-array-write-x c = search needs
-
-add-i : tie.Need-add-i Inv-loop μ-loop
-add-i c = search needs
-
-loop-less : tie.Need-loop-less Inv-loop μ-loop
-loop-less c = search needs
-
 loop-again : tie.Need-loop-again Inv-loop μ-loop
 loop-again c =
     let l = c .before .loop in
@@ -79,16 +46,7 @@ finish-spec =
     Inv-loop
     μ-loop
     loop-holds
-    add-j
-    mul-x
-    array-read-x
-    mul-x-2
-    array-read-x-2
-    mul-x-3
-    array-read-x-3
-    mul-x-4
-    array-write-x
-    add-i
-    loop-less
+    (search needs) (search needs) (search needs) (search needs) (search needs) (search needs) (search needs) (search needs) (search needs)
+    (search needs) (search needs)
     loop-again
     returns)

@@ -12,4 +12,4 @@ element-copy-out-result : tie.Need-element-copy-out-result
 element-copy-out-result c = omega (arith, c .pre .1)
 
 pub pick-spec : {M : Type 1} → statement M
-pick-spec = tie.close (tie.spec (λ c. search needs) (λ c. search needs) mul-result element-copy-out-result (λ c. search needs))
+pick-spec = tie.close (tie.spec (search needs) (search needs) mul-result element-copy-out-result (search needs))

@@ -25,4 +25,4 @@ returns-2 c =
 
 pub final-block-spec : {M : Type 1} → statement M
 final-block-spec =
-    tie.close (tie.spec (λ c κs. search needs) returns slice-aggregate-result returns-2)
+    tie.close (tie.spec (search needs) returns slice-aggregate-result returns-2)

@@ -17,4 +17,4 @@ returns-2 c =
     facts-whole (a .block) (a .row) (now (a .input)) (a .offset) (c .before .offset-slice .ensures) (c .if1 .left)
 
 pub final-facts-spec : {M : Type 1} → statement M
-final-facts-spec = tie.close (tie.spec (λ c κs. search needs) returns returns-2)
+final-facts-spec = tie.close (tie.spec (search needs) returns returns-2)

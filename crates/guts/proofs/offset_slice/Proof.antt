@@ -10,28 +10,10 @@ use lib.Seq.{take-all, take-nil, drop-length}
 use Rattle.guts.proofs.offset_slice.Statement.{statement}
 use Rattle.guts.proofs.offset_slice.Tie as tie
 
-sub-result : tie.Need-sub-result
-sub-result c = search needs
-
-part-result-start : tie.Need-part-result-start
-part-result-start c = search needs
-
-part-result-end : tie.Need-part-result-end
-part-result-end c = search needs
-
 returns : tie.Need-returns
 returns c =
     let a = c .before .before .args in
     take-all (length (a .input .now) - a .offset) (drop (a .offset) (a .input .now)) (rw length-drop (omega arith))
-
-sub-result-2 : tie.Need-sub-result-2
-sub-result-2 c = search needs
-
-part-result-start-2 : tie.Need-part-result-start-2
-part-result-start-2 c = search needs
-
-part-result-end-2 : tie.Need-part-result-end-2
-part-result-end-2 c = search needs
 
 returns-2 : tie.Need-returns-2
 returns-2 c =
@@ -44,11 +26,7 @@ pub offset-slice-spec : {M : Type 1} → statement M
 offset-slice-spec =
     tie.close
     (tie.spec
-    sub-result
-    part-result-start
-    part-result-end
+    (search needs) (search needs) (search needs)
     returns
-    sub-result-2
-    part-result-start-2
-    part-result-end-2
+    (search needs) (search needs) (search needs)
     returns-2)

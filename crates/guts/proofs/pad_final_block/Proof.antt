@@ -28,4 +28,4 @@ returns-2 c =
 
 pub pad-final-block-spec : {M : Type 1} → statement M
 pad-final-block-spec =
-    tie.close (tie.spec (λ c κs. search needs) (λ c κs. search needs) (λ c κs. search needs) (λ c. search needs) returns returns-2)
+    tie.close (tie.spec (search needs) (search needs) (search needs) (search needs) returns returns-2)

@@ -20,33 +20,15 @@ abbrev μ-loop : tie.MeasureT-loop
 loop-holds : tie.Need-loop-holds Inv-loop μ-loop
 loop-holds c = (omega arith, refl, lit< tt)
 
-sub-p : tie.Need-sub-p Inv-loop μ-loop
-sub-p c = search needs
-
-add-p : tie.Need-add-p Inv-loop μ-loop
-add-p c = search needs
-
 mul-x : tie.Need-mul-x Inv-loop μ-loop
 mul-x c =
     let l = c .before .loop in
     omega (arith, horner-fits 8 (l .j) (l .x) 0 (omega arith) (l .inv .2) (lit< tt))
 
-shared-slice-read-wide : tie.Need-shared-slice-read-wide Inv-loop μ-loop
-shared-slice-read-wide c = search needs
-
-wide-requires : tie.Need-wide-requires Inv-loop μ-loop
-wide-requires c κs = search needs
-
 add-x : tie.Need-add-x Inv-loop μ-loop
 add-x c =
     let l = c .before .before .before .loop in
     omega (arith, horner-fits 8 (l .j) (l .x) (c .wide .result) (omega arith) (l .inv .2) (c .wide .ensures .1))
-
-add-j : tie.Need-add-j Inv-loop μ-loop
-add-j c = search needs
-
-loop-less : tie.Need-loop-less Inv-loop μ-loop
-loop-less c = search needs
 
 loop-again : tie.Need-loop-again Inv-loop μ-loop
 loop-again c =
@@ -78,13 +60,10 @@ read-word-spec =
     Inv-loop
     μ-loop
     loop-holds
-    sub-p
-    add-p
+    (search needs) (search needs)
     mul-x
-    shared-slice-read-wide
-    wide-requires
+    (search needs) (search needs)
     add-x
-    add-j
-    loop-less
+    (search needs) (search needs)
     loop-again
     returns)

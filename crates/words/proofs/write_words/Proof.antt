@@ -35,34 +35,10 @@ long c = search needs
 loop-holds : tie.Need-loop-holds Inv-loop2 μ-loop2 Inv-loop μ-loop
 loop-holds c = (omega arith, refl, λ k h. absurd (not-suc-le-zero h))
 
-mul-x : tie.Need-mul-x Inv-loop2 μ-loop2 Inv-loop μ-loop
-mul-x c = search needs
-
-array-read-x : tie.Need-array-read-x Inv-loop2 μ-loop2 Inv-loop μ-loop
-array-read-x c = search needs
-
 loop2-holds : tie.Need-loop2-holds Inv-loop2 μ-loop2 Inv-loop μ-loop
 loop2-holds c =
     let l = c .before .loop in
     (omega arith, l .inv .1, sym (div-one (c .before .before .args .t1 ! (l .i))), λ k h. l .inv .2 k (omega arith))
-
-mul-p : tie.Need-mul-p Inv-loop2 μ-loop2 Inv-loop μ-loop
-mul-p c = search needs
-
-add-p : tie.Need-add-p Inv-loop2 μ-loop2 Inv-loop μ-loop
-add-p c = search needs
-
-cast-out : tie.Need-cast-out Inv-loop2 μ-loop2 Inv-loop μ-loop
-cast-out c = search needs
-
-array-write-out : tie.Need-array-write-out Inv-loop2 μ-loop2 Inv-loop μ-loop
-array-write-out c = search needs
-
-add-j : tie.Need-add-j Inv-loop2 μ-loop2 Inv-loop μ-loop
-add-j c = search needs
-
-loop2-less : tie.Need-loop2-less Inv-loop2 μ-loop2 Inv-loop μ-loop
-loop2-less c = search needs
 
 loop2-again : tie.Need-loop2-again Inv-loop2 μ-loop2 Inv-loop μ-loop
 loop2-again c =
@@ -78,12 +54,6 @@ loop2-again c =
       ap (λ (x : ℕ). x / 256) (l .inv .2) ∙ shr-shr (h ! i) (8 * j) 8 ∙ ap (λ (n : ℕ). h ! i / 2 ^ n) e,
       λ k b. set-more (l .out) (i * 8 + j) (l .x % 256) (λ n. flatMap (bytes 8) h ! n) (omega arith) w (l .inv .3) k (omega arith),
     )
-
-add-i : tie.Need-add-i Inv-loop2 μ-loop2 Inv-loop μ-loop
-add-i c = search needs
-
-loop-less : tie.Need-loop-less Inv-loop2 μ-loop2 Inv-loop μ-loop
-loop-less c = search needs
 
 loop-again : tie.Need-loop-again Inv-loop2 μ-loop2 Inv-loop μ-loop
 loop-again c =
@@ -107,17 +77,10 @@ write-words-spec =
     Inv-loop
     μ-loop
     loop-holds
-    mul-x
-    array-read-x
+    (search needs) (search needs)
     loop2-holds
-    mul-p
-    add-p
-    cast-out
-    array-write-out
-    add-j
-    loop2-less
+    (search needs) (search needs) (search needs) (search needs) (search needs) (search needs)
     loop2-again
-    add-i
-    loop-less
+    (search needs) (search needs)
     loop-again
     returns)

@@ -16,4 +16,4 @@ returns c =
     c .run-leaves .ensures ∙ rows-dealt block onLeaf (omega arith) degree (omega arith) (a .leaves) (a .count .0) (a .input .now) (a .rows) (s .pre .0) (s .pre .1)
 
 pub compress-to-leaves-spec : {M : Type 1} → statement M
-compress-to-leaves-spec = tie.close (tie.spec (λ c κs. search needs) returns)
+compress-to-leaves-spec = tie.close (tie.spec (search needs) returns)

@@ -27,4 +27,4 @@ returns c =
 
 pub finalize-root-words-spec : {M : Type 1} → statement M
 finalize-root-words-spec =
-    tie.close (tie.spec (λ c κs. search needs) (λ c. search needs) (λ c κs. search needs) (λ c κs. search needs) (λ c. search needs) (λ c κs. search needs) returns)
+    tie.close (tie.spec (search needs) (search needs) (search needs) (search needs) (search needs) (search needs) returns)

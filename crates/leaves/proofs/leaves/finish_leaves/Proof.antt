@@ -10,4 +10,4 @@ unfolding finished
 returns c = c .run-leaves .ensures
 
 pub finish-leaves-spec : {M : Type 1} → statement M
-finish-leaves-spec = tie.close (tie.spec (λ c κs. search needs) returns)
+finish-leaves-spec = tie.close (tie.spec (search needs) returns)

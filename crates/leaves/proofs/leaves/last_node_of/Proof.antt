@@ -15,4 +15,4 @@ returns-2 : tie.Need-returns-2
 returns-2 c = sym (ne-eqb (suc (c .before .args .i)) 4 (λ e. c .if1 .left (add-one (c .before .args .i) ∙ e)))
 
 pub last-node-of-spec : {M : Type 1} → statement M
-last-node-of-spec = tie.close (tie.spec (λ c. search needs) returns returns-2)
+last-node-of-spec = tie.close (tie.spec (search needs) returns returns-2)

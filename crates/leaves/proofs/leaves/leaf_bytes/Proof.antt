@@ -76,16 +76,9 @@ leaf-bytes-spec =
     μ-loop
     (search needs)
     loop-holds
-    (search needs)
-    (search needs)
-    (search needs)
-    (search needs)
-    (search needs)
-    (search needs)
-    (search needs)
+    (search needs) (search needs) (search needs) (search needs) (search needs) (search needs) (search needs)
     part-store-end
     store-requires
-    (search needs)
-    (search needs)
+    (search needs) (search needs)
     loop-again
     returns)

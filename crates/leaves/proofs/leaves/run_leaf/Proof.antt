@@ -15,4 +15,4 @@ returns c =
     run-made (a .leaf) (a .count .0) (finalizes (a .finalize)) (finalizes (a .finalize) && isLastNode (a .last-node)) (now (a .input)) (r .compress1-loop .ensures)
 
 pub run-leaf-spec : {M : Type 1} → statement M
-run-leaf-spec = tie.close (tie.spec (λ c κs. search needs) returns)
+run-leaf-spec = tie.close (tie.spec (search needs) returns)

@@ -12,4 +12,4 @@ returns c =
     c .parameter-words .ensures ∙ zeros-are-none (a .hash-length) (a .key-length) (a .offset) (a .depth)
 
 pub node-words-spec : {M : Type 1} → statement M
-node-words-spec = tie.close (tie.spec (λ c κs. search needs) returns)
+node-words-spec = tie.close (tie.spec (search needs) returns)

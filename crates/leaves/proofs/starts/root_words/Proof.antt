@@ -10,4 +10,4 @@ unfolding rootStart
 returns c = c .node-words .ensures
 
 pub root-words-spec : {M : Type 1} → statement M
-root-words-spec = tie.close (tie.spec (λ c κs. search needs) returns)
+root-words-spec = tie.close (tie.spec (search needs) returns)

@@ -91,23 +91,14 @@ compress1-loop-spec =
     (tie.spec
     Inv-loop
     μ-loop
-    (search needs)
-    (search needs)
+    (search needs) (search needs)
     (λ c κs. let w = wide (c .before) in omega arith)
-    (search needs)
-    (search needs)
-    (search needs)
-    (search needs)
-    (search needs)
+    (search needs) (search needs) (search needs) (search needs) (search needs)
     loop-holds
     (search needs)
     (λ c. record { fits = count-fits (c .before .loop .inv) (facts c .0) (2 ^ 64) (entered (c .before) .pre) })
     (λ c. sym (buffer-long (c .before .before .loop .inv .ready)))
-    (search needs)
-    (search needs)
-    (search needs)
-    (search needs)
-    (search needs)
+    (search needs) (search needs) (search needs) (search needs) (search needs)
     (λ c κs. let b = c .before .before .before .before in block-long (b .before .before .before .loop .inv) (b .final-block .ensures))
     returns
     (λ c. let h = turn (c .before) .inside (c .if1 .left) in let g = entered (faced (c .before) .before) .pre in record { fits = omega arith })

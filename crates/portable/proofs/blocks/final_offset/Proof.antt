@@ -23,12 +23,6 @@ start n row = split (n - 1) (row * ((n - 1) / row)) ((n - 1) % row) (rw (mul-com
 returns : tie.Need-returns
 returns c = none (c .before .args .n) (c .before .args .row) (c .if1 .taken)
 
-sub-m : tie.Need-sub-m
-sub-m c = search needs
-
-rem-result : tie.Need-rem-result
-rem-result c = search needs
-
 sub-result : tie.Need-sub-result
 sub-result c = mod-le (c .before .args .n - 1) (c .before .args .row)
 
@@ -36,4 +30,4 @@ returns-2 : tie.Need-returns-2
 returns-2 c = start (c .before .args .n) (c .before .args .row)
 
 pub final-offset-spec : {M : Type 1} → statement M
-final-offset-spec = tie.close (tie.spec returns sub-m rem-result sub-result returns-2)
+final-offset-spec = tie.close (tie.spec returns (search needs) (search needs) sub-result returns-2)

@@ -19,7 +19,18 @@ pub fn parameter_words(
     salt: [u8; 16],
     personal: [u8; 16],
 ) -> [u64; 8]
-    ensures { λ r. ⌜ r ≡ start BLAKE2b (record { digestLength = «digest_length»; keyLength = «key_length»; fanout = fanout; depth = depth; leafLength = «leaf_length»; nodeOffset = «node_offset»; nodeDepth = «node_depth»; innerLength = «inner_length»; salt = salt; personal = personal }) ⌝ }
+    ensures { λ r. ⌜ r ≡ start BLAKE2b (record {
+      digestLength = «digest_length»;
+      keyLength = «key_length»;
+      fanout = fanout;
+      depth = depth;
+      leafLength = «leaf_length»;
+      nodeOffset = «node_offset»;
+      nodeDepth = «node_depth»;
+      innerLength = «inner_length»;
+      salt = salt;
+      personal = personal;
+    }) ⌝ }
 {
     let lengths = digest_length as u64
         + key_length as u64 * 0x100

@@ -15,16 +15,19 @@ use Rattle.definitions.specs.Tree.{share, leafData, parameters}
 use Rattle.definitions.proofs.Lengths.{length-from, length-part, length-pad}
 use Rattle.vectors.specs.Cases.{Question, chain, leaves, firstWords, Key, seen, summary, Holds, Case, table, Each}
 
+abbrev block : ℕ
+block = BLAKE2b .bb
+
 -- lengths alone
 abbrev head : Bool → ℕ
-head k = cond k 128 0
+head k = cond k block 0
 
 length-keyed : (k : Bool) (key m : List ℕ) → Key k key → length (keyed BLAKE2b key m) ≡ head k + length m
 unfolding keyed
 length-keyed false [] m h = sym (zero-add (length m))
 length-keyed false (x ∷ key) m h = absurd (omega arith)
 length-keyed true [] m h = absurd (not-suc-le-zero (h .0))
-length-keyed true (x ∷ key) m h = length-append (pad 128 (x ∷ key)) m ∙ ap (λ (n : ℕ). n + length m) (length-pad 128 (x ∷ key) (omega (arith, h .1)))
+length-keyed true (x ∷ key) m h = length-append (pad block (x ∷ key)) m ∙ ap (λ (n : ℕ). n + length m) (length-pad block (x ∷ key) (omega (arith, h .1)))
 
 sum : (ℕ → ℕ) → List ℕ → ℕ
 sum g [] = 0
@@ -40,20 +43,20 @@ map-same g h e [] = refl
 map-same g h e (x ∷ l) = λ i. e x i ∷ map-same g h e l i
 
 shape : ℕ → List ℕ
-shape n = suc ((n - 1) / 128) ∷ n ∷ min 128 (n - (n - 1) / 128 * 128) ∷ []
+shape n = suc ((n - 1) / block) ∷ n ∷ min block (n - (n - 1) / block * block) ∷ []
 
 summary-is : (d : List ℕ) → summary (calls BLAKE2b false d) ≡ shape (length d)
 unfolding summary calls shape
 summary-is d =
-    let n : ℕ = (length d - 1) / 128 in
-    let full : ℕ → Call = λ i. record { block = part 128 d i; count = (i + 1) * 128; last = false; node = false } in
-    let end : List Call = record { block = part 128 d n; count = length d; last = true; node = false } ∷ [] in
+    let n : ℕ = (length d - 1) / block in
+    let full : ℕ → Call = λ i. record { block = part block d i; count = (i + 1) * block; last = false; node = false } in
+    let end : List Call = record { block = part block d n; count = length d; last = true; node = false } ∷ [] in
     let e : length (map full (from 0 n) ++ end) ≡ suc n =
     length-append (map full (from 0 n)) end ∙ ap (λ (k : ℕ). k + 1) (length-map (from 0 n) full ∙ length-from 0 n) ∙ add-one n in
-    λ i. e i ∷ (foldl-append seen [] (map full (from 0 n)) end ∙ ap (λ (k : ℕ). length d ∷ k ∷ []) (length-part 128 d n)) i
+    λ i. e i ∷ (foldl-append seen [] (map full (from 0 n)) end ∙ ap (λ (k : ℕ). length d ∷ k ∷ []) (length-part block d n)) i
 
 sizes : Bool → ℕ → List ℕ
-sizes k n = map (λ i. head k + sum (λ j. min 128 (n - (i + 4 * j) * 128)) (from 0 (suc (n / 512)))) (from 0 4)
+sizes k n = map (λ i. head k + sum (λ j. min block (n - (i + 4 * j) * block)) (from 0 (suc (n / (4 * block))))) (from 0 4)
 
 predicted : Question → List ℕ
 predicted (chain k n) = shape (head k + n)
@@ -67,9 +70,9 @@ chain-holds k n a e key m hk hm =
 leaves-hold : (k : Bool) (n : ℕ) (a : List ℕ) → sizes k n ≡ a → Holds (leaves k n) a
 unfolding sizes share leafData
 leaves-hold k n a e key m hk hm =
-    map-same (λ i. length (leafData BLAKE2b 4 key m i)) (λ i. head k + sum (λ j. min 128 (length m - (i + 4 * j) * 128)) (from 0 (suc (length m / 512))))
-    (λ i. length-keyed k key (share 128 4 m i) hk
-    ∙ ap (λ (x : ℕ). head k + x) (length-flat (λ j. part 128 m (i + 4 * j)) (λ j. min 128 (length m - (i + 4 * j) * 128)) (λ j. length-part 128 m (i + 4 * j)) (from 0 (suc (length m / 512)))))
+    map-same (λ i. length (leafData BLAKE2b 4 key m i)) (λ i. head k + sum (λ j. min block (length m - (i + 4 * j) * block)) (from 0 (suc (length m / (4 * block)))))
+    (λ i. length-keyed k key (share block 4 m i) hk
+    ∙ ap (λ (x : ℕ). head k + x) (length-flat (λ j. part block m (i + 4 * j)) (λ j. min block (length m - (i + 4 * j) * block)) (λ j. length-part block m (i + 4 * j)) (from 0 (suc (length m / (4 * block))))))
     (from 0 4)
     ∙ ap (sizes k) hm ∙ e
 

@@ -18,19 +18,19 @@ use Rattle.portable.proofs.blocks.compress1_loop.Statement.{statement}
 use Rattle.portable.proofs.blocks.compress1_loop.Tie as tie
 
 abbrev Inv-loop : tie.InvT-loop
-Inv-loop input count row buf fin-last-block fin-last-node local-words₀ local-count₀ offset₀ local-words local-count offset =
-    Reached BLAKE2b input row buf count local-words₀ local-words local-count offset
+Inv-loop input count row padded fin-last-block fin-last-node local-words₀ local-count₀ offset₀ local-words local-count offset =
+    Reached BLAKE2b input row padded count local-words₀ local-words local-count offset
 
 abbrev μ-loop : tie.MeasureT-loop
-μ-loop input count row buf fin-last-block fin-last-node local-words₀ local-count₀ offset₀ local-words local-count offset =
+μ-loop input count row padded fin-last-block fin-last-node local-words₀ local-count₀ offset₀ local-words local-count offset =
     length input - offset
 
 -- from the loop's head back to the buffer, the row and the entry, and from a compression to the facts on its block
-abbrev padded : tie.At-loop Inv-loop μ-loop → tie.After-pad-final-block Inv-loop μ-loop
-padded l = l .before .before .before .before .before
+abbrev prepared : tie.At-loop Inv-loop μ-loop → tie.After-pad-final-block Inv-loop μ-loop
+prepared l = l .before .before .before .before .before
 
 abbrev rowed : tie.At-loop Inv-loop μ-loop → tie.After-padded-blockbytes Inv-loop μ-loop
-rowed l = padded l .before .before .before .before
+rowed l = prepared l .before .before .before .before
 
 abbrev entered : tie.At-loop Inv-loop μ-loop → tie.Start Inv-loop μ-loop
 entered l = rowed l .before .before
@@ -63,7 +63,7 @@ loop-holds c =
 -- the turn that a compression ends
 turn : (c : tie.After-compress-block Inv-loop μ-loop)
     → let l = faced c .before in
-    Turned BLAKE2b (input l) (row l) (padded l .pad-final-block .last .1 .1 .0)
+    Turned BLAKE2b (input l) (row l) (prepared l .pad-final-block .last .1 .1 .0)
     (entered l .args .count) (entered l .args .words) (l .before .before .before .yes .result) (l .before .both .result)
     (faced c .final-facts .result .«may_finalize») (c .compress-block .result) (l .loop .local-count + faced c .final-facts .result .len) (l .loop .offset)
 turn c =

@@ -40,10 +40,10 @@ all-below (x ∷ s) t zero = ltb→lt x 16 (and-l (ltb x 16) (allBelow s) t)
 all-below (x ∷ s) t (suc i) = all-below s (and-r (ltb x 16) (allBelow s) t) i
 
 -- the test, and that what passes it is an order
-abbrev ordered : List ℕ → Bool
-ordered s = eqb (length s) 16 && (allBelow s && upTo 16 (λ k. eqb (times k s) 1))
+abbrev isOrder : List ℕ → Bool
+isOrder s = eqb (length s) 16 && (allBelow s && upTo 16 (λ k. eqb (times k s) 1))
 
-order : (s : List ℕ) → T (ordered s) → Order s
+order : (s : List ℕ) → T (isOrder s) → Order s
 order s t =
     let q : Bool = upTo 16 (λ k. eqb (times k s) 1) in
     let u = and-r (eqb (length s) 16) (allBelow s && q) t in
@@ -55,4 +55,4 @@ order s t =
 
 pub schedule : ((i : ℕ) → i < 12 → Order (row i)) × (row 10 ≡ row 0) × (row 11 ≡ row 1)
 unfolding SIGMA times
-schedule = (λ i h. order (row i) (up-to 12 (λ j. ordered (row j)) tt i h), refl, refl)
+schedule = (λ i h. order (row i) (up-to 12 (λ j. isOrder (row j)) tt i h), refl, refl)

@@ -26,4 +26,5 @@ returns c =
     c .from-state .ensures ∙ ap (λ (b : List ℕ). madeFrom b (a .hash-length)) (d .write-words .ensures ∙ ap (stateBytes BLAKE2b) words)
 
 pub finalize-root-words-spec : {M : Type 1} → statement M
-finalize-root-words-spec = tie.close (tie.spec (search needs) (search needs) (search needs) (search needs) (search needs) (search needs) returns)
+finalize-root-words-spec =
+    tie.close (tie.spec (search needs) (search needs) (search needs) (search needs) (search needs) (search needs) returns)

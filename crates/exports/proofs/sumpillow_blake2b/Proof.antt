@@ -21,4 +21,4 @@ returns c =
     written-output (blake2 BLAKE2b 64 [] m) (now (a .out)) 64 (omega arith) (omega arith) (length-of-digest m) (b .blake2b .ensures ∙ ap hashOf (digest-plain m)) (c .before .before .write-bytes .ensures)
 
 pub sumpillow-blake2b-spec : {M : Type 1} → statement M
-sumpillow-blake2b-spec = tie.close (tie.spec (λ c κs. search needs) (λ c κs. search needs) (λ c. search needs) returns)
+sumpillow-blake2b-spec = tie.close (tie.spec (search needs) (search needs) (search needs) returns)

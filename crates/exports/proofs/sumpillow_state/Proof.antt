@@ -39,9 +39,5 @@ pub sumpillow-state-spec : {M : Type 1} → statement M
 sumpillow-state-spec =
     tie.close
     (tie.spec
-    (λ c κs. search needs)
-    (λ c κs. search needs)
-    (λ c κs. search needs)
-    (λ c κs. search needs)
-    (λ c. search needs)
+    (search needs) (search needs) (search needs) (search needs) (search needs)
     returns)

@@ -20,4 +20,4 @@ returns c =
     written-output (BLAKE2bp 64 [] m) (now (a .out)) 64 (omega arith) (omega arith) (length-of-digest m) (b .blake2bp .ensures ∙ ap hashOf (digest-plain m)) (c .before .before .write-bytes .ensures)
 
 pub sumpillow-blake2bp-spec : {M : Type 1} → statement M
-sumpillow-blake2bp-spec = tie.close (tie.spec (λ c κs. search needs) (λ c κs. search needs) (λ c. search needs) returns)
+sumpillow-blake2bp-spec = tie.close (tie.spec (search needs) (search needs) (search needs) returns)

@@ -13,4 +13,4 @@ returns c =
     stored-padded 16 (now (z .before .before .args .bytes)) (z .zero-field .ensures) (st .store .ensures)
 
 pub padded16-spec : {M : Type 1} → statement M
-padded16-spec = tie.close (tie.spec (λ c κs. search needs) (λ c. search needs) (λ c κs. search needs) returns)
+padded16-spec = tie.close (tie.spec (search needs) (search needs) (search needs) returns)

@@ -31,4 +31,4 @@ returns c =
     c .compress1-loop .ensures ∙ whole (a .words) (a .count) (now (a .input)) (a .blocks) (c .before .before .pre .0) (c .before .before .pre .1)
 
 pub absorbed-spec : {M : Type 1} → statement M
-absorbed-spec = tie.close (tie.spec (λ c κs. search needs) returns)
+absorbed-spec = tie.close (tie.spec (search needs) returns)

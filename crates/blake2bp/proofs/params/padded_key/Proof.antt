@@ -13,4 +13,4 @@ returns c =
     stored-padded 64 (now (z .before .before .args .key)) (z .zero-key .ensures) (st .store .ensures)
 
 pub padded-key-spec : {M : Type 1} → statement M
-padded-key-spec = tie.close (tie.spec (λ c κs. search needs) (λ c. search needs) (λ c κs. search needs) returns)
+padded-key-spec = tie.close (tie.spec (search needs) (search needs) (search needs) returns)

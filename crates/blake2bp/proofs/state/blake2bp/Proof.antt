@@ -24,4 +24,4 @@ returns c =
     ap (λ (a : HashAnswer). a .hash) (c .before .hash .ensures ∙ ap (λ (p : Params). hashed p m) (c .before .before .new .ensures) ∙ hashed-defaults m (few s))
 
 pub blake2bp-spec : {M : Type 1} → statement M
-blake2bp-spec = tie.close (tie.spec (λ c κs. search needs) (λ c κs. search needs) returns)
+blake2bp-spec = tie.close (tie.spec (search needs) (search needs) returns)

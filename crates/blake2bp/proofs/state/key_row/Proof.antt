@@ -53,13 +53,10 @@ key-row-spec =
     (tie.spec
     Inv-loop
     μ-loop
-    (λ c κs. search needs)
+    (search needs)
     loop-holds
-    (λ c. search needs)
-    (λ c. search needs)
-    (λ c. search needs)
+    (search needs) (search needs) (search needs)
     store-requires
-    (λ c. search needs)
-    (λ c. search needs)
+    (search needs) (search needs)
     loop-again
     returns)

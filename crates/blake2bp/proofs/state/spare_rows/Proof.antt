@@ -15,4 +15,4 @@ unfolding spare
 returns-2 c = omega arith
 
 pub spare-rows-spec : {M : Type 1} → statement M
-spare-rows-spec = tie.close (tie.spec returns (λ c. search needs) (λ c. search needs) returns-2)
+spare-rows-spec = tie.close (tie.spec returns (search needs) (search needs) returns-2)

@@ -15,12 +15,6 @@ sized c = search needs
 good : (c : tie.Then1) → hashInRange (c .before .before .args .other) ≡ true
 good c = sym (c .before .in-range .ensures) ∙ c .if1 .taken
 
-in-range-requires : tie.Need-in-range-requires
-in-range-requires c κs = search needs
-
-cast-n : tie.Need-cast-n
-cast-n c = search needs
-
 array-share-prefix-bytes : tie.Need-array-share-prefix-bytes
 array-share-prefix-bytes c =
     let s = c .before .before .before .before in
@@ -30,9 +24,6 @@ slice-aggregate-equals-bytes : tie.Need-slice-aggregate-equals-bytes
 slice-aggregate-equals-bytes c =
     let s = c .before .before .before .before .before in
     sym (length-digest (s .args .other) (sized s) (good (c .before .before .before)))
-
-equals-bytes-requires : tie.Need-equals-bytes-requires
-equals-bytes-requires c κs = search needs
 
 returns : tie.Need-returns
 returns c =
@@ -49,10 +40,9 @@ pub equals-spec : {M : Type 1} → statement M
 equals-spec =
     tie.close
     (tie.spec
-    in-range-requires
-    cast-n
+    (search needs) (search needs)
     array-share-prefix-bytes
     slice-aggregate-equals-bytes
-    equals-bytes-requires
+    (search needs)
     returns
     returns-2)

@@ -16,12 +16,6 @@ sized c = search needs
 good : (c : tie.Then1) → hashInRange (c .before .before .before .args .self) ≡ true
 good c = sym (c .before .in-range .ensures) ∙ c .if1 .taken
 
-in-range-requires : tie.Need-in-range-requires
-in-range-requires c κs = search needs
-
-cast-n : tie.Need-cast-n
-cast-n c = search needs
-
 array-share-prefix-bytes : tie.Need-array-share-prefix-bytes
 array-share-prefix-bytes c =
     let s = c .before .before .before .before .before in
@@ -31,9 +25,6 @@ slice-aggregate-same : tie.Need-slice-aggregate-same
 slice-aggregate-same c =
     let s = c .before .before .before .before .before .before in
     sym (length-digest (s .args .self) (sized s) (good (c .before .before .before)))
-
-same-requires : tie.Need-same-requires
-same-requires c κs = search needs
 
 returns : tie.Need-returns
 returns c =
@@ -49,10 +40,9 @@ pub equals-bytes-spec : {M : Type 1} → statement M
 equals-bytes-spec =
     tie.close
     (tie.spec
-    in-range-requires
-    cast-n
+    (search needs) (search needs)
     array-share-prefix-bytes
     slice-aggregate-same
-    same-requires
+    (search needs)
     returns
     returns-2)

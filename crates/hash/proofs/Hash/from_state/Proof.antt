@@ -64,13 +64,11 @@ pub from-state-spec : {M : Type 1} → statement M
 from-state-spec =
     tie.close
     (tie.spec
-    (λ c κs. search needs)
-    (λ c κs. search needs)
+    (search needs) (search needs)
     returns
-    (λ c κs. search needs)
+    (search needs)
     returns-2
-    (λ c κs. search needs)
-    (λ c. search needs)
+    (search needs) (search needs)
     slice-aggregate-store-2
     store-requires
     cast-t14

@@ -6,12 +6,6 @@ use Rattle.hash.proofs.Digests.{length-known, length-refused}
 use Rattle.hash.proofs.Hash.len.Statement.{statement}
 use Rattle.hash.proofs.Hash.len.Tie as tie
 
-in-range-requires : tie.Need-in-range-requires
-in-range-requires c κs = search needs
-
-cast-t3 : tie.Need-cast-t3
-cast-t3 c = search needs
-
 returns : tie.Need-returns
 returns c = length-known (c .before .before .before .args .self) (sym (c .before .before .in-range .ensures) ∙ c .before .if1 .taken)
 
@@ -19,4 +13,4 @@ returns-2 : tie.Need-returns-2
 returns-2 c = length-refused (c .before .before .args .self) (sym (c .before .in-range .ensures) ∙ c .if1 .left)
 
 pub len-spec : {M : Type 1} → statement M
-len-spec = tie.close (tie.spec in-range-requires cast-t3 returns returns-2)
+len-spec = tie.close (tie.spec (search needs) (search needs) returns returns-2)

@@ -46,11 +46,10 @@ pub write-bytes-spec : {M : Type 1} → statement M
 write-bytes-spec =
     tie.close
     (tie.spec
-    (λ c κs. search needs)
+    (search needs)
     returns
-    (λ c. search needs)
+    (search needs)
     array-share-prefix-bytes
     slice-aggregate-write
-    (λ c κs. search needs)
-    (λ c. search needs)
+    (search needs) (search needs)
     returns-2)

@@ -87,16 +87,15 @@ pub write-hex-spec : {M : Type 1} → statement M
 write-hex-spec =
     tie.close
     (tie.spec
-    (λ c κs. search needs)
+    (search needs)
     returns
-    (λ c. search needs)
+    (search needs)
     array-share-prefix-bytes
     slice-aggregate-put-hex
-    (λ c. search needs)
+    (search needs)
     put-hex-requires
-    (λ c. search needs)
+    (search needs)
     array-share-prefix-digits
     slice-aggregate-write
-    (λ c κs. search needs)
-    (λ c. search needs)
+    (search needs) (search needs)
     returns-2)

@@ -38,4 +38,4 @@ returns-2 c =
     ∙ sym (part-good h (good e) (length (digestOf h)) (now (s .args .out)))
 
 pub written-bytes-spec : {M : Type 1} → statement M
-written-bytes-spec = tie.close (tie.spec (λ c κs. search needs) (λ c. search needs) returns (λ c. search needs) (λ c κs. search needs) returns-2)
+written-bytes-spec = tie.close (tie.spec (search needs) (search needs) returns (search needs) (search needs) returns-2)

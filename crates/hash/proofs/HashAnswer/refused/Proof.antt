@@ -10,4 +10,4 @@ returns : tie.Need-returns
 returns c = ap (λ (h : Hash). record { number = c .before .args .number; hash = h }) (c .zero .ensures)
 
 pub refused-spec : {M : Type 1} → statement M
-refused-spec = tie.close (tie.spec (λ c κs. search needs) returns)
+refused-spec = tie.close (tie.spec (search needs) returns)

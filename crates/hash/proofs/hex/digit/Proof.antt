@@ -6,12 +6,6 @@ use Rattle.hash.specs.Hash.{digitOf}
 use Rattle.hash.proofs.hex.digit.Statement.{statement}
 use Rattle.hash.proofs.hex.digit.Tie as tie
 
-add-result : tie.Need-add-result
-add-result c = search needs
-
-add-result-2 : tie.Need-add-result-2
-add-result-2 c = search needs
-
 returns : tie.Need-returns
 unfolding digitOf
 returns c = rw (lt-ltb (c .before .args .n) 10 (c .if1 .taken))
@@ -21,4 +15,4 @@ unfolding digitOf
 returns-2 c = rw (le-ltb (c .before .args .n) 10 (c .if1 .left))
 
 pub digit-spec : {M : Type 1} → statement M
-digit-spec = tie.close (tie.spec add-result add-result-2 returns returns-2)
+digit-spec = tie.close (tie.spec (search needs) (search needs) returns returns-2)

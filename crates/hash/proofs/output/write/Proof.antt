@@ -30,4 +30,4 @@ returns-2 c =
     (r .room-for .ensures, output-kept (now (a .text)) (now (a .out)) (r .room-for .ensures) (c .if1 .left))
 
 pub write-spec : {M : Type 1} → statement M
-write-spec = tie.close (tie.spec (λ c κs. search needs) store-requires (λ c. search needs) returns returns-2)
+write-spec = tie.close (tie.spec (search needs) store-requires (search needs) returns returns-2)

@@ -22,4 +22,4 @@ returns : tie.Need-returns
 returns c = ap (λ (b : LengthAnswer). take (b .length) (now (c .before .before .before .args .out))) (c .before .room-for .ensures)
 
 pub written-spec : {M : Type 1} → statement M
-written-spec = tie.close (tie.spec (λ c κs. search needs) slice-aggregate-result returns)
+written-spec = tie.close (tie.spec (search needs) slice-aggregate-result returns)

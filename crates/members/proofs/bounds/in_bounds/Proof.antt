@@ -106,10 +106,10 @@ pub in-bounds-spec : {M : Type 1} → statement M
 in-bounds-spec =
     tie.close
     (tie.spec
-    (λ c κs. search needs)
+    (search needs)
     returns
     returns-2
-    (λ c. search needs)
+    (search needs)
     returns-3
     mul-gone
     sub-if4

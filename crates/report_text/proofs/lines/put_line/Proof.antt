@@ -11,27 +11,6 @@ use Rattle.report_text.proofs.lines.put_line.Tie as tie
 room : (c : tie.Start) → c .args .at + (length (now (c .args .name)) + length (now (c .args .value)) + 2) ≤ length (now (c .args .out))
 room c = search needs
 
-put-requires : tie.Need-put-requires
-put-requires c κs = search needs
-
-slice-aggregate-put : tie.Need-slice-aggregate-put
-slice-aggregate-put c = search needs
-
-put-requires-2 : tie.Need-put-requires-2
-put-requires-2 c κs = search needs
-
-put-requires-3 : tie.Need-put-requires-3
-put-requires-3 c κs = search needs
-
-slice-aggregate-put-2 : tie.Need-slice-aggregate-put-2
-slice-aggregate-put-2 c = search needs
-
-put-requires-4 : tie.Need-put-requires-4
-put-requires-4 c κs = search needs
-
-same-length : tie.Need-same-length
-same-length c = search needs
-
 returns : tie.Need-returns
 returns c =
     let p₄ = c .before .before in
@@ -47,11 +26,5 @@ pub put-line-spec : {M : Type 1} → statement M
 put-line-spec =
     tie.close
     (tie.spec
-    put-requires
-    slice-aggregate-put
-    put-requires-2
-    put-requires-3
-    slice-aggregate-put-2
-    put-requires-4
-    same-length
+    (search needs) (search needs) (search needs) (search needs) (search needs) (search needs) (search needs)
     returns)

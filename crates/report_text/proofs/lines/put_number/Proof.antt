@@ -22,20 +22,8 @@ made d = d .decimal .ensures .1 .1 ∙ digits-decimal (d .decimal .result) (d .b
 few : (d : tie.After-decimal) → length (take (d .decimal .result) (d .decimal .last .1 .0)) ≤ 20
 few d = rw (made d) (at-most-twenty (d .before .before .before .before .args .number) (bounded (d .before .before .before .before)))
 
-decimal-requires : tie.Need-decimal-requires
-decimal-requires c κs = search needs
-
-array-share-prefix-digits : tie.Need-array-share-prefix-digits
-array-share-prefix-digits c = search needs
-
-slice-aggregate-put-line : tie.Need-slice-aggregate-put-line
-slice-aggregate-put-line c = search needs
-
 put-line-requires : tie.Need-put-line-requires
 put-line-requires c κs = let l = few (c .before .before) in omega (arith, l)
-
-same-length : tie.Need-same-length
-same-length c = search needs
 
 returns : tie.Need-returns
 returns c =
@@ -49,9 +37,7 @@ pub put-number-spec : {M : Type 1} → statement M
 put-number-spec =
     tie.close
     (tie.spec
-    decimal-requires
-    array-share-prefix-digits
-    slice-aggregate-put-line
+    (search needs) (search needs) (search needs)
     put-line-requires
-    same-length
+    (search needs)
     returns)

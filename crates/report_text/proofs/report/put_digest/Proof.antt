@@ -36,15 +36,6 @@ front w =
     let d = hexOf (digestOf (w .before .before .before .args .hash)) in
     written-front d (w .write-hex .last .1 .0) (w .write-hex .result .length) (made w .0 ∙ sym (zero-add (length d)), made w .1)
 
-slice-aggregate-write-hex : tie.Need-slice-aggregate-write-hex
-slice-aggregate-write-hex c = search needs
-
-write-hex-requires : tie.Need-write-hex-requires
-write-hex-requires c κs = search needs
-
-slice-aggregate-put-line : tie.Need-slice-aggregate-put-line
-slice-aggregate-put-line c = search needs
-
 array-share-prefix-digits : tie.Need-array-share-prefix-digits
 array-share-prefix-digits c = front (c .before .before .before) .0
 
@@ -59,9 +50,6 @@ put-line-requires c κs =
     let room = asked s .1 in
     omega (arith, few, room)
 
-same-length : tie.Need-same-length
-same-length c = search needs
-
 returns : tie.Need-returns
 returns c =
     let p = c .before .before in
@@ -73,11 +61,9 @@ pub put-digest-spec : {M : Type 1} → statement M
 put-digest-spec =
     tie.close
     (tie.spec
-    slice-aggregate-write-hex
-    write-hex-requires
-    slice-aggregate-put-line
+    (search needs) (search needs) (search needs)
     array-share-prefix-digits
     slice-aggregate-put-line-2
     put-line-requires
-    same-length
+    (search needs)
     returns)

@@ -16,24 +16,6 @@ sized c = search needs
 good : (c : tie.Start) → hashInRange (c .args .hash) ≡ true
 good c = search needs
 
-len-requires : tie.Need-len-requires
-len-requires c κs = search needs
-
-put-lengths-requires : tie.Need-put-lengths-requires
-put-lengths-requires c κs = search needs
-
-slice-aggregate-put-number : tie.Need-slice-aggregate-put-number
-slice-aggregate-put-number c = search needs
-
-put-number-requires : tie.Need-put-number-requires
-put-number-requires c κs = search needs
-
-put-digest-requires : tie.Need-put-digest-requires
-put-digest-requires c κs = search needs
-
-same-length : tie.Need-same-length
-same-length c = search needs
-
 returns : tie.Need-returns
 returns c =
     let p₃ = c .before .before in
@@ -49,10 +31,5 @@ pub put-five-spec : {M : Type 1} → statement M
 put-five-spec =
     tie.close
     (tie.spec
-    len-requires
-    put-lengths-requires
-    slice-aggregate-put-number
-    put-number-requires
-    put-digest-requires
-    same-length
+    (search needs) (search needs) (search needs) (search needs) (search needs) (search needs)
     returns)

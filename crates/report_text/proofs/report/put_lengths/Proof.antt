@@ -21,29 +21,11 @@ second p =
     let b : p .put-number .result ≤ p .before .before .before .before .before .put-line .result + 33 = p .put-number .ensures .0 in
     omega (arith, e, b)
 
-slice-aggregate-put-line : tie.Need-slice-aggregate-put-line
-slice-aggregate-put-line c = search needs
-
-slice-aggregate-put-line-2 : tie.Need-slice-aggregate-put-line-2
-slice-aggregate-put-line-2 c = search needs
-
-put-line-requires : tie.Need-put-line-requires
-put-line-requires c κs = search needs
-
-slice-aggregate-put-number : tie.Need-slice-aggregate-put-number
-slice-aggregate-put-number c = search needs
-
 put-number-requires : tie.Need-put-number-requires
 put-number-requires c κs = let e = first (c .before .before .before .before) in omega (arith, e)
 
-slice-aggregate-put-number-2 : tie.Need-slice-aggregate-put-number-2
-slice-aggregate-put-number-2 c = search needs
-
 put-number-requires-2 : tie.Need-put-number-requires-2
 put-number-requires-2 c κs = let e = second (c .before .before .before .before) in omega (arith, e)
-
-same-length : tie.Need-same-length
-same-length c = search needs
 
 returns : tie.Need-returns
 returns c =
@@ -63,12 +45,9 @@ pub put-lengths-spec : {M : Type 1} → statement M
 put-lengths-spec =
     tie.close
     (tie.spec
-    slice-aggregate-put-line
-    slice-aggregate-put-line-2
-    put-line-requires
-    slice-aggregate-put-number
+    (search needs) (search needs) (search needs) (search needs)
     put-number-requires
-    slice-aggregate-put-number-2
+    (search needs)
     put-number-requires-2
-    same-length
+    (search needs)
     returns)

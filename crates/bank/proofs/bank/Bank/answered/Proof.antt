@@ -9,4 +9,4 @@ returns : tie.Need-returns
 returns c = refl
 
 pub answered-spec : {M : Type 1} → statement M
-answered-spec = tie.close (tie.spec (λ c. search needs) (λ c. search needs) returns)
+answered-spec = tie.close (tie.spec (search needs) (search needs) returns)

@@ -18,4 +18,4 @@ returns-2 c =
     c .count .ensures ∙ ap countAnswer (answer-of-slot _ _ count (i .before .fault .ensures) (i .if1 .left) (s .slot .ensures))
 
 pub count-spec : {M : Type 1} → statement M
-count-spec = tie.close (tie.spec (λ c κs. search needs) returns (λ c κs. search needs) (λ c κs. search needs) returns-2)
+count-spec = tie.close (tie.spec (search needs) returns (search needs) (search needs) returns-2)

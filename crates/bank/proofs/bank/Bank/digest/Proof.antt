@@ -18,4 +18,4 @@ returns-2 c =
     c .digest .ensures ∙ ap hashAnswer (answer-of-slot _ _ digest (i .before .fault .ensures) (i .if1 .left) (s .slot .ensures))
 
 pub digest-spec : {M : Type 1} → statement M
-digest-spec = tie.close (tie.spec (λ c κs. search needs) (λ c κs. search needs) returns (λ c κs. search needs) (λ c κs. search needs) returns-2)
+digest-spec = tie.close (tie.spec (search needs) (search needs) returns (search needs) (search needs) returns-2)

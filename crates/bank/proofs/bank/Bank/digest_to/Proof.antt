@@ -15,4 +15,4 @@ returns-2 c =
     output-written _ _ _ (i .before .before .digest .ensures) (i .if1 .left) (w .write-bytes .ensures .0) (w .write-bytes .ensures .1)
 
 pub digest-to-spec : {M : Type 1} → statement M
-digest-to-spec = tie.close (tie.spec (λ c κs. search needs) returns (λ c κs. search needs) (λ c. search needs) returns-2)
+digest-to-spec = tie.close (tie.spec (search needs) returns (search needs) (search needs) returns-2)

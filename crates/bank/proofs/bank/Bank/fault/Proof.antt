@@ -19,4 +19,4 @@ returns-4 : tie.Need-returns-4
 returns-4 c = no-fault _ _ _ (c .before .before .before .in-range .ensures) (c .before .before .if1 .left) (not-false _ (c .before .if2 .left)) (c .if3 .left)
 
 pub fault-spec : {M : Type 1} → statement M
-fault-spec = tie.close (tie.spec (λ c κs. search needs) returns returns-2 returns-3 returns-4)
+fault-spec = tie.close (tie.spec (search needs) returns returns-2 returns-3 returns-4)

@@ -43,4 +43,4 @@ returns-2 c =
     every-ends slotGood (l .before .before .args .self .slots) (l .loop .i) (rw (sized (l .before .before)) (c .loop-test .left)) ∙ l .loop .inv .1
 
 pub in-range-spec : {M : Type 1} → statement M
-in-range-spec = tie.close (tie.spec Inv-loop μ-loop loop-holds (λ c. search needs) (λ c. search needs) (λ c κs. search needs) returns (λ c. search needs) (λ c. search needs) loop-again returns-2)
+in-range-spec = tie.close (tie.spec Inv-loop μ-loop loop-holds (search needs) (search needs) (search needs) returns (search needs) (search needs) loop-again returns-2)

@@ -11,4 +11,4 @@ returns : tie.Need-returns
 returns c = ap (λ (s : Slot). record { slots = replicate 16 s }) (c .closed .ensures)
 
 pub new-spec : {M : Type 1} → statement M
-new-spec = tie.close (tie.spec (λ c κs. search needs) returns)
+new-spec = tie.close (tie.spec (search needs) returns)

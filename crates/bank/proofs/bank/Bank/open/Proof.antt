@@ -33,4 +33,4 @@ returns-2 c =
     call-answered _ _ _ (faulty (i .before)) (i .if1 .left) (s .slot .ensures) (c .before .«open» .ensures) (c .answered .ensures)
 
 pub open-spec : {M : Type 1} → statement M
-open-spec = tie.close (tie.spec (λ c κs. search needs) (λ c κs. search needs) returns (λ c κs. search needs) open-requires answered-requires returns-2)
+open-spec = tie.close (tie.spec (search needs) (search needs) returns (search needs) open-requires answered-requires returns-2)

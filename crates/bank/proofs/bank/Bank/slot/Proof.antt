@@ -25,4 +25,4 @@ returns-2 c =
     any-default (s .args .self .slots) (s .args .slot) _ _ (rw (sized s) (i .if1 .left))
 
 pub slot-spec : {M : Type 1} → statement M
-slot-spec = tie.close (tie.spec (λ c κs. search needs) returns (λ c. search needs) (λ c. search needs) returns-2)
+slot-spec = tie.close (tie.spec (search needs) returns (search needs) (search needs) returns-2)

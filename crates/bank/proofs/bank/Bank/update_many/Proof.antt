@@ -80,4 +80,4 @@ returns-5 c =
     batch-ends _ _ (begun l .args .t2) (l .loop .i) (begun l .args .used) _ (l .loop .inv .0) (c .loop-test .left) ∙ l .loop .inv .3
 
 pub update-many-spec : {M : Type 1} → statement M
-update-many-spec = tie.close (tie.spec Inv-loop μ-loop (λ c κs. search needs) (λ c κs. search needs) returns (λ c κs. search needs) returns-2 loop-holds (λ c. search needs) (λ c. search needs) (λ c κs. search needs) returns-3 (λ c. search needs) (λ c. search needs) (λ c κs. search needs) (λ c κs. search needs) returns-4 (λ c. search needs) (λ c. search needs) (λ c. search needs) (λ c. search needs) loop-again returns-5)
+update-many-spec = tie.close (tie.spec Inv-loop μ-loop (search needs) (search needs) returns (search needs) returns-2 loop-holds (search needs) (search needs) (search needs) returns-3 (search needs) (search needs) (search needs) (search needs) returns-4 (search needs) (search needs) (search needs) (search needs) loop-again returns-5)

@@ -13,4 +13,4 @@ returns-2 : tie.Need-returns-2
 returns-2 c = open-close _ (not-false _ (c .before .if1 .left)) (c .zero .ensures)
 
 pub close-spec : {M : Type 1} → statement M
-close-spec = tie.close (tie.spec returns (λ c κs. search needs) returns-2)
+close-spec = tie.close (tie.spec returns (search needs) returns-2)

@@ -11,4 +11,4 @@ returns : tie.Need-returns
 returns c = ap (λ (s : State). record { «is_open» = false; state = s }) (c .zero .ensures)
 
 pub closed-spec : {M : Type 1} → statement M
-closed-spec = tie.close (tie.spec (λ c κs. search needs) returns)
+closed-spec = tie.close (tie.spec (search needs) returns)

@@ -13,4 +13,4 @@ returns-2 : tie.Need-returns-2
 returns-2 c = open-count _ (not-false _ (c .before .before .if1 .left)) (c .count .ensures)
 
 pub count-spec : {M : Type 1} → statement M
-count-spec = tie.close (tie.spec returns (λ c κs. search needs) returns-2)
+count-spec = tie.close (tie.spec returns (search needs) returns-2)

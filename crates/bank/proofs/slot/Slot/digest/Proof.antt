@@ -13,4 +13,4 @@ returns-2 : tie.Need-returns-2
 returns-2 c = open-digest _ (not-false _ (c .before .before .if1 .left)) (c .finalize .ensures)
 
 pub digest-spec : {M : Type 1} → statement M
-digest-spec = tie.close (tie.spec (λ c κs. search needs) returns (λ c κs. search needs) returns-2)
+digest-spec = tie.close (tie.spec (search needs) returns (search needs) returns-2)

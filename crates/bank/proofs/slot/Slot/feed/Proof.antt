@@ -34,4 +34,4 @@ returns-2 c =
     fed-updated _ _ _ (e .before .before .piece-ok .ensures) (e .before .place-fault .ensures) (e .if1 .left) (c .update .ensures)
 
 pub feed-spec : {M : Type 1} → statement M
-feed-spec = tie.close (tie.spec (λ c κs. search needs) (λ c κs. search needs) returns add-end (λ c. search needs) (λ c. search needs) part-update-end (λ c κs. search needs) returns-2)
+feed-spec = tie.close (tie.spec (search needs) (search needs) returns add-end (search needs) (search needs) part-update-end (search needs) returns-2)

@@ -13,4 +13,4 @@ returns-2 : tie.Need-returns-2
 returns-2 c = range-closed _ (c .if1 .left)
 
 pub in-range-spec : {M : Type 1} → statement M
-in-range-spec = tie.close (tie.spec (λ c κs. search needs) returns returns-2)
+in-range-spec = tie.close (tie.spec (search needs) returns returns-2)

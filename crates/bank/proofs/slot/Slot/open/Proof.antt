@@ -13,4 +13,4 @@ returns-2 c =
     closed-opened _ (c .before .before .if1 .left) _ (search needs) (c .before .to-state .ensures)
 
 pub open-spec : {M : Type 1} → statement M
-open-spec = tie.close (tie.spec returns (λ c κs. search needs) returns-2)
+open-spec = tie.close (tie.spec returns (search needs) returns-2)

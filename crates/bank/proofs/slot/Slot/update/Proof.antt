@@ -14,4 +14,4 @@ returns-2 c =
     open-updated _ (not-false _ (c .before .before .before .if1 .left)) _ (c .before .update .ensures)
 
 pub update-spec : {M : Type 1} → statement M
-update-spec = tie.close (tie.spec returns (λ c κs. search needs) returns-2)
+update-spec = tie.close (tie.spec returns (search needs) returns-2)

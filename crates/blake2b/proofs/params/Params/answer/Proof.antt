@@ -24,4 +24,4 @@ returns-3 c =
     passed _ _ _ (d .in-range .ensures) (i .if1 .left) (holds _ _ _ (eq-eqb (d .before .args .refusal) accepted (c .if2 .left)) refl)
 
 pub answer-spec : {M : Type 1} → statement M
-answer-spec = tie.close (tie.spec (λ c κs. search needs) returns returns-2 returns-3)
+answer-spec = tie.close (tie.spec (search needs) returns returns-2 returns-3)

@@ -25,4 +25,4 @@ returns-2 c =
     rw (sym (d .is-digest-length .ensures) ∙ not-false (d .is-digest-length .result) (c .before .if1 .left)) (c .answer2 .ensures)
 
 pub hash-length-spec : {M : Type 1} → statement M
-hash-length-spec = tie.close (tie.spec (λ c κs. search needs) (λ c κs. search needs) returns cast-p (λ c κs. search needs) returns-2)
+hash-length-spec = tie.close (tie.spec (search needs) (search needs) returns cast-p (search needs) returns-2)

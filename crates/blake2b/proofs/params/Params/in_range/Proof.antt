@@ -25,4 +25,4 @@ returns-3 c =
     and-passed _ _ (i .before .is-digest-length .ensures) (i .if1 .left) (and-holds _ _ (le-leb _ 64 (c .before .if2 .left)) refl)
 
 pub in-range-spec : {M : Type 1} → statement M
-in-range-spec = tie.close (tie.spec (λ c. search needs) (λ c κs. search needs) returns (λ c. search needs) returns-2 (λ c. search needs) returns-3)
+in-range-spec = tie.close (tie.spec (search needs) (search needs) returns (search needs) returns-2 (search needs) returns-3)

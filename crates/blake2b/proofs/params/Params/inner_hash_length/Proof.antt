@@ -13,4 +13,4 @@ returns-2 : tie.Need-returns-2
 returns-2 c = rw (le-leb (c .before .before .args .length) outbytes (c .before .if1 .left)) (c .answer2 .ensures)
 
 pub inner-hash-length-spec : {M : Type 1} → statement M
-inner-hash-length-spec = tie.close (tie.spec (λ c κs. search needs) returns (λ c. search needs) (λ c κs. search needs) returns-2)
+inner-hash-length-spec = tie.close (tie.spec (search needs) returns (search needs) (search needs) returns-2)

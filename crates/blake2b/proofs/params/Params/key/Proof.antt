@@ -23,4 +23,4 @@ returns-2 c =
     (c .answer2 .ensures ∙ (λ j. answered p [] (withFields p (length (now (a .key))) (d .padded-block .ensures j) (p .salt) (p .personal) (p .«last_node»))))
 
 pub key-spec : {M : Type 1} → statement M
-key-spec = tie.close (tie.spec (λ c κs. search needs) returns (λ c κs. search needs) (λ c. search needs) (λ c κs. search needs) returns-2)
+key-spec = tie.close (tie.spec (search needs) returns (search needs) (search needs) (search needs) returns-2)

@@ -15,4 +15,4 @@ unfolding zeros
 returns c = ap (λ (b : List ℕ). withFields defaults 0 b (zeros 16) (zeros 16) false) (c .zero-block .ensures)
 
 pub new-spec : {M : Type 1} → statement M
-new-spec = tie.close (tie.spec (λ c κs. search needs) returns)
+new-spec = tie.close (tie.spec (search needs) returns)

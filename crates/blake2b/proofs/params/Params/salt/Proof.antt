@@ -23,4 +23,4 @@ returns-2 c =
     (c .answer2 .ensures ∙ (λ j. answered p [] (withFields p (p .«key_length») (p .«key_block») (d .padded16 .ensures j) (p .personal) (p .«last_node»))))
 
 pub salt-spec : {M : Type 1} → statement M
-salt-spec = tie.close (tie.spec (λ c κs. search needs) returns (λ c κs. search needs) (λ c κs. search needs) returns-2)
+salt-spec = tie.close (tie.spec (search needs) returns (search needs) (search needs) returns-2)

@@ -13,9 +13,6 @@ returns c =
     let s = c .before .before in
     rows-none keeper laws (s .args .self) (s .args .input .now) (s .args .blocks) (s .pre .0) (s .pre .1) (c .if1 .taken)
 
-absorbed-requires : tie.Need-absorbed-requires
-absorbed-requires c κs = search needs
-
 returns-2 : tie.Need-returns-2
 returns-2 c =
     let z = c .before in
@@ -25,4 +22,4 @@ returns-2 c =
     rows-some keeper laws (s .args .self) (s .args .input .now) (s .args .blocks) (s .pre .0) (s .pre .1) (length (s .args .input .now)) (s .pre .1) (i .if1 .left) (r .absorbed .ensures) (z .zero-block .ensures)
 
 pub compress-blocks-spec : {M : Type 1} → statement M
-compress-blocks-spec = tie.close (tie.spec returns absorbed-requires (λ c κs. search needs) (λ c. search needs) returns-2)
+compress-blocks-spec = tie.close (tie.spec returns (search needs) (search needs) (search needs) returns-2)

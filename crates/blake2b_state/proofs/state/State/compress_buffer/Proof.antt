@@ -27,4 +27,4 @@ returns c =
     one-gone keeper laws (s .args .self) (sized s) (s .pre .0) refl (r .absorbed .ensures) (z .zero-block .ensures)
 
 pub compress-buffer-spec : {M : Type 1} → statement M
-compress-buffer-spec = tie.close (tie.spec (λ c. search needs) absorbed-requires (λ c κs. search needs) (λ c. search needs) returns)
+compress-buffer-spec = tie.close (tie.spec (λ c. search needs) absorbed-requires (search needs) (λ c. search needs) returns)

@@ -78,15 +78,11 @@ pub finalize-spec : {M : Type 1} → statement M
 finalize-spec =
     tie.close
     (tie.spec
-    (λ c κs. search needs)
-    (λ c κs. search needs)
+    (search needs) (search needs)
     returns
     array-share-prefix-b
     slice-aggregate-compress1-loop
-    (λ c κs. search needs)
+    (search needs)
     compress1-loop-requires
-    (λ c κs. search needs)
-    (λ c. search needs)
-    (λ c. search needs)
-    (λ c κs. search needs)
+    (search needs) (search needs) (search needs) (search needs)
     returns-2)

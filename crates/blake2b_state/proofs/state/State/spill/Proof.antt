@@ -79,4 +79,4 @@ returns c =
     (spare-one (a .self .buflen) (length (a .input .now)) (length rest) (e .held) (e .more) (length-drop (128 - a .self .buflen) (a .input .now)))
 
 pub spill-spec : {M : Type 1} → statement M
-spill-spec = tie.close (tie.spec (λ c. search needs) slice-aggregate-fill-buf fill-buf-requires compress-buffer-requires (λ c κs. search needs) take-long-requires returns)
+spill-spec = tie.close (tie.spec (search needs) slice-aggregate-fill-buf fill-buf-requires compress-buffer-requires (search needs) take-long-requires returns)

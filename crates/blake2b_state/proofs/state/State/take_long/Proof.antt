@@ -56,4 +56,4 @@ returns c =
     (rw (t .offset-slice .ensures) at (c .fill-buf .ensures)))
 
 pub take-long-spec : {M : Type 1} → statement M
-take-long-spec = tie.close (tie.spec (λ c κs. search needs) mul-end slice-aggregate-compress-blocks compress-blocks-requires (λ c κs. search needs) fill-buf-requires returns)
+take-long-spec = tie.close (tie.spec (search needs) mul-end slice-aggregate-compress-blocks compress-blocks-requires (search needs) fill-buf-requires returns)

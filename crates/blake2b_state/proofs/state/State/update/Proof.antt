@@ -101,4 +101,4 @@ returns-5 c =
     all-taken e (taken-tight keeper laws (a .self) (a .input .now) (record { sized = sized (begun i); held = ranged i .held }) tight (spare 128 0 (a .self .buflen + length (a .input .now))) refl (c .spill .ensures))
 
 pub update-spec : {M : Type 1} → statement M
-update-spec = tie.close (tie.spec (λ c κs. search needs) returns (λ c. search needs) sub-left-2 returns-2 sub-if3 fill-buf-requires returns-3 take-long-requires returns-4 spill-requires returns-5)
+update-spec = tie.close (tie.spec (search needs) returns (search needs) sub-left-2 returns-2 sub-if3 fill-buf-requires returns-3 take-long-requires returns-4 spill-requires returns-5)

@@ -16,4 +16,4 @@ unfolding zeros
 returns c = ap (λ (b : List ℕ). parts keeper laws zeroState (zeros 8) 0 b 0) (c .zero-block .ensures)
 
 pub zero-spec : {M : Type 1} → statement M
-zero-spec = tie.close (tie.spec (λ c κs. search needs) returns)
+zero-spec = tie.close (tie.spec (search needs) returns)

@@ -35,4 +35,4 @@ returns-3 c =
     passed _ _ _ (i .before .in-range .ensures) (i .if1 .left) (passed _ _ _ (d .is-digest-length .ensures) (c .before .if2 .left) (c .answer3 .ensures))
 
 pub hash-length-spec : {M : Type 1} → statement M
-hash-length-spec = tie.close (tie.spec (λ c κs. search needs) (λ c κs. search needs) returns (λ c κs. search needs) (λ c κs. search needs) returns-2 cast-p (λ c κs. search needs) returns-3)
+hash-length-spec = tie.close (tie.spec (search needs) (search needs) returns (search needs) (search needs) returns-2 cast-p (search needs) returns-3)

@@ -16,4 +16,4 @@ unfolding inRange
 returns-2 c = and-passed _ _ (c .before .before .is-digest-length .ensures) (c .before .if1 .left) refl
 
 pub in-range-spec : {M : Type 1} → statement M
-in-range-spec = tie.close (tie.spec (λ c. search needs) (λ c κs. search needs) returns (λ c. search needs) returns-2)
+in-range-spec = tie.close (tie.spec (search needs) (search needs) returns (search needs) returns-2)

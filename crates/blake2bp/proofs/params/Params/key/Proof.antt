@@ -31,4 +31,4 @@ returns-3 c =
     (c .answer3 .ensures ∙ (λ j. record { number = accepted; params = record { «hash_length» = p .«hash_length»; «key_length» = length (now (a .key)); key = c .before .padded-key .ensures j } })))
 
 pub key-spec : {M : Type 1} → statement M
-key-spec = tie.close (tie.spec (λ c κs. search needs) (λ c κs. search needs) returns (λ c κs. search needs) returns-2 (λ c κs. search needs) (λ c. search needs) (λ c κs. search needs) returns-3)
+key-spec = tie.close (tie.spec (search needs) (search needs) returns (search needs) returns-2 (search needs) (search needs) (search needs) returns-3)

@@ -11,4 +11,4 @@ returns : tie.Need-returns
 returns c = ap (λ (b : List ℕ). record { «hash_length» = 64; «key_length» = 0; key = b }) (c .zero-key .ensures)
 
 pub new-spec : {M : Type 1} → statement M
-new-spec = tie.close (tie.spec (λ c κs. search needs) (λ c. search needs) returns)
+new-spec = tie.close (tie.spec (search needs) (search needs) returns)

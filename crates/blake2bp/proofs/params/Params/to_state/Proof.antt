@@ -28,4 +28,4 @@ returns-2 c =
     passed _ _ _ (i .in-range .ensures) (c .before .if1 .left) (ap (reads .state accepted) (c .with-params .ensures))
 
 pub to-state-spec : {M : Type 1} → statement M
-to-state-spec = tie.close (tie.spec (λ c κs. search needs) (λ c κs. search needs) returns with-params-requires returns-2)
+to-state-spec = tie.close (tie.spec (search needs) (search needs) returns with-params-requires returns-2)

@@ -36,14 +36,9 @@ pub with-params-spec : {M : Type 1} → statement M
 with-params-spec =
     tie.close
     (tie.spec
-    (λ c κs. search needs)
-    (λ c κs. search needs)
-    (λ c. search needs)
-    (λ c. search needs)
-    (λ c. search needs)
+    (search needs) (search needs) (search needs) (search needs) (search needs)
     part-padded-block-end
-    (λ c κs. search needs)
-    (λ c κs. search needs)
+    (search needs) (search needs)
     returns
-    (λ c κs. search needs)
+    (search needs)
     returns-2)

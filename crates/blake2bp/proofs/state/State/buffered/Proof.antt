@@ -20,4 +20,4 @@ returns-2 c =
     passed _ _ _ (i .in-range .ensures) (c .if1 .left) refl
 
 pub buffered-spec : {M : Type 1} → statement M
-buffered-spec = tie.close (tie.spec (λ c κs. search needs) returns returns-2)
+buffered-spec = tie.close (tie.spec (search needs) returns returns-2)

@@ -26,4 +26,4 @@ returns c =
     both-gone keeper keeper-laws (s .args .self) (sized s) (s .pre .0) refl (z .before .compress-to-leaves .ensures) (z .zero-buffer .ensures)
 
 pub compress-both-spec : {M : Type 1} → statement M
-compress-both-spec = tie.close (tie.spec (λ c. search needs) compress-to-leaves-requires (λ c κs. search needs) (λ c. search needs) returns)
+compress-both-spec = tie.close (tie.spec (λ c. search needs) compress-to-leaves-requires (search needs) (λ c. search needs) returns)

@@ -30,15 +30,9 @@ pub compress-half-spec : {M : Type 1} → statement M
 compress-half-spec =
     tie.close
     (tie.spec
-    (λ c. search needs)
-    (λ c. search needs)
+    (search needs) (search needs)
     part-compress-to-leaves-end
-    (λ c κs. search needs)
-    (λ c κs. search needs)
-    (λ c. search needs)
-    (λ c. search needs)
-    (λ c. search needs)
+    (search needs) (search needs) (search needs) (search needs) (search needs)
     part-store-end
-    (λ c κs. search needs)
-    (λ c. search needs)
+    (search needs) (search needs)
     returns)

@@ -23,4 +23,4 @@ returns-2 c =
     rows-some keeper keeper-laws (s .args .self) (s .args .input .now) (s .args .rows) (s .pre .0) (s .pre .1) (128 * s .args .rows) refl (i .if1 .left) (r .compress-to-leaves .ensures) (z .zero-buffer .ensures)
 
 pub compress-rows-spec : {M : Type 1} → statement M
-compress-rows-spec = tie.close (tie.spec returns (λ c κs. search needs) (λ c κs. search needs) (λ c. search needs) (λ c. search needs) returns-2)
+compress-rows-spec = tie.close (tie.spec returns (search needs) (search needs) (search needs) (search needs) returns-2)

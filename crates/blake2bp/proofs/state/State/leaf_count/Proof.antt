@@ -20,4 +20,4 @@ returns-2 c =
     passed _ _ _ (i .in-range .ensures) (c .before .if1 .left) refl
 
 pub leaf-count-spec : {M : Type 1} → statement M
-leaf-count-spec = tie.close (tie.spec (λ c κs. search needs) returns returns-2)
+leaf-count-spec = tie.close (tie.spec (search needs) returns returns-2)

@@ -14,4 +14,4 @@ returns : tie.Need-returns
 returns c = c .with-params .ensures ∙ ap fresh (c .before .new .ensures)
 
 pub new-spec : {M : Type 1} → statement M
-new-spec = tie.close (tie.spec (λ c κs. search needs) with-params-requires returns)
+new-spec = tie.close (tie.spec (search needs) with-params-requires returns)

@@ -113,17 +113,12 @@ pub spill-spec : {M : Type 1} → statement M
 spill-spec =
     tie.close
     (tie.spec
-    (λ c. search needs)
-    (λ c. search needs)
-    (λ c. search needs)
-    (λ c. search needs)
-    (λ c κs. search needs)
-    (λ c. search needs)
+    (search needs) (search needs) (search needs) (search needs) (search needs) (search needs)
     compress-both-requires
-    (λ c κs. search needs)
+    (search needs)
     take-long-requires
     returns
     compress-half-requires
-    (λ c κs. search needs)
+    (search needs)
     fill-buf-requires-2
     returns-2)

@@ -63,12 +63,11 @@ pub take-long-spec : {M : Type 1} → statement M
 take-long-spec =
     tie.close
     (tie.spec
-    (λ c κs. search needs)
+    (search needs)
     mul-end
-    (λ c. search needs)
-    (λ c. search needs)
+    (search needs) (search needs)
     part-compress-rows-end
     compress-rows-requires
-    (λ c κs. search needs)
+    (search needs)
     fill-buf-requires
     returns)

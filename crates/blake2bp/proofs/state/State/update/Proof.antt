@@ -107,4 +107,4 @@ returns-5 c =
     taken e (taken-spill keeper keeper-laws (a .self) (a .input .now) (record { sized = sized (begun i); held = r .held }) (omega (arith, r .held, t .if4 .left)) (c .spill .ensures))
 
 pub update-spec : {M : Type 1} → statement M
-update-spec = tie.close (tie.spec (λ c κs. search needs) returns mul-left sub-left sub-left-2 returns-2 take-long-requires returns-3 sub-if4 fill-buf-requires returns-4 spill-requires returns-5)
+update-spec = tie.close (tie.spec (search needs) returns mul-left sub-left sub-left-2 returns-2 take-long-requires returns-3 sub-if4 fill-buf-requires returns-4 spill-requires returns-5)

@@ -14,29 +14,11 @@ use Rattle.report_text.proofs.report.Report.lines.Tie as tie
 asked : (c : tie.Start) → (stateInRange (c .args .self .state) ≡ true) × (length (now (c .args .out)) ≡ 256)
 asked c = search needs
 
-slice-aggregate-put-line : tie.Need-slice-aggregate-put-line
-slice-aggregate-put-line c = search needs
-
-slice-aggregate-put-line-2 : tie.Need-slice-aggregate-put-line-2
-slice-aggregate-put-line-2 c = search needs
-
-put-line-requires : tie.Need-put-line-requires
-put-line-requires c κs = search needs
-
-same-length : tie.Need-same-length
-same-length c = search needs
-
 returns : tie.Need-returns
 returns c =
     let p = c .before .before in
     let a = p .before .before .before .before .before .before .before .args in
     lines-unreadable (a .self) (now (a .out)) (p .put-line .last .0) (p .put-line .result) (p .before .before .before .before .if1 .taken) (p .put-line .ensures)
-
-finalize-requires : tie.Need-finalize-requires
-finalize-requires c κs = search needs
-
-count-requires : tie.Need-count-requires
-count-requires c κs = search needs
 
 put-five-requires : tie.Need-put-five-requires
 put-five-requires c κs =
@@ -44,9 +26,6 @@ put-five-requires c κs =
     let s = f .before .before .before .before .before in
     let l = asked s .1 in
     (finalized-in-range (s .args .self .state) (asked s .0) (f .finalize .ensures), omega (arith, l))
-
-same-length-2 : tie.Need-same-length-2
-same-length-2 c = search needs
 
 returns-2 : tie.Need-returns-2
 returns-2 c =
@@ -59,13 +38,9 @@ pub lines-spec : {M : Type 1} → statement M
 lines-spec =
     tie.close
     (tie.spec
-    slice-aggregate-put-line
-    slice-aggregate-put-line-2
-    put-line-requires
-    same-length
+    (search needs) (search needs) (search needs) (search needs)
     returns
-    finalize-requires
-    count-requires
+    (search needs) (search needs)
     put-five-requires
-    same-length-2
+    (search needs)
     returns-2)

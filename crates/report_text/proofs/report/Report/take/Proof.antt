@@ -6,9 +6,6 @@ use Rattle.report_text.proofs.Reports.{taken-readable, taken-unreadable
 use Rattle.report_text.proofs.report.Report.take.Statement.{statement}
 use Rattle.report_text.proofs.report.Report.take.Tie as tie
 
-update-requires : tie.Need-update-requires
-update-requires c κs = search needs
-
 returns : tie.Need-returns
 returns c = taken-readable (c .before .before .before .before .before .args .self) (now (c .before .before .before .before .before .args .piece)) (c .before .before .update .ensures) (c .if1 .taken)
 
@@ -16,4 +13,4 @@ returns-2 : tie.Need-returns-2
 returns-2 c = taken-unreadable (c .before .before .before .before .before .args .self) (now (c .before .before .before .before .before .args .piece)) (c .before .before .update .ensures) (c .if1 .left)
 
 pub take-spec : {M : Type 1} → statement M
-take-spec = tie.close (tie.spec update-requires returns returns-2)
+take-spec = tie.close (tie.spec (search needs) returns returns-2)

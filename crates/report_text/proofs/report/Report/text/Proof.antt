@@ -9,16 +9,10 @@ use Rattle.report_text.proofs.Reports.{text-bad, text-wrote}
 use Rattle.report_text.proofs.report.Report.text.Statement.{statement}
 use Rattle.report_text.proofs.report.Report.text.Tie as tie
 
-in-range-requires : tie.Need-in-range-requires
-in-range-requires c κs = search needs
-
 returns : tie.Need-returns
 returns c =
     let a = c .before .before .before .before .args in
     text-bad (a .self) (now (a .out)) (c .before .in-range .ensures) (c .if1 .taken)
-
-slice-aggregate-lines : tie.Need-slice-aggregate-lines
-slice-aggregate-lines c = search needs
 
 lines-requires : tie.Need-lines-requires
 lines-requires c κs =
@@ -31,12 +25,6 @@ array-share-prefix-text c = written-front _ _ _ (c .before .lines .ensures) .0
 slice-aggregate-write : tie.Need-slice-aggregate-write
 slice-aggregate-write c = written-front _ _ _ (c .before .before .lines .ensures) .1
 
-write-requires : tie.Need-write-requires
-write-requires c κs = search needs
-
-same-length : tie.Need-same-length
-same-length c = search needs
-
 returns-2 : tie.Need-returns-2
 returns-2 c =
     let p = c .before .before in
@@ -48,12 +36,11 @@ pub text-spec : {M : Type 1} → statement M
 text-spec =
     tie.close
     (tie.spec
-    in-range-requires
+    (search needs)
     returns
-    slice-aggregate-lines
+    (search needs)
     lines-requires
     array-share-prefix-text
     slice-aggregate-write
-    write-requires
-    same-length
+    (search needs) (search needs)
     returns-2)

@@ -40,7 +40,20 @@ pub filled-turn : (n : ℕ) (x b : List ℕ) {at : ℕ} {buf r : List ℕ} → b
 filled-turn n x b {at} e f g = g ∙ ap (λ (d : List ℕ). paste d at b (length b)) e ∙ paste-padded n x b f
 
 -- parameters whose salt and personalization are zeros are those that have none
-pub zeros-are-none : (d k o e : ℕ) → start BLAKE2b (record { digestLength = d; keyLength = k; fanout = 4; depth = 2; leafLength = 0; nodeOffset = o; nodeDepth = e; innerLength = 64; salt = replicate 16 0; personal = replicate 16 0 }) ≡ start BLAKE2b (parameters BLAKE2b 4 d k o e)
+pub zeros-are-none : (d k o e : ℕ)
+    → start BLAKE2b (record {
+      digestLength = d;
+      keyLength = k;
+      fanout = 4;
+      depth = 2;
+      leafLength = 0;
+      nodeOffset = o;
+      nodeDepth = e;
+      innerLength = 64;
+      salt = replicate 16 0;
+      personal = replicate 16 0;
+    })
+    ≡ start BLAKE2b (parameters BLAKE2b 4 d k o e)
 unfolding start parameterBlock pad parameters
 zeros-are-none d k o e = refl
 

@@ -52,8 +52,12 @@ loop-again c =
     let all : take 64 (w .write-words .result) ≡ w .write-words .result = take-all 64 (w .write-words .result) (omega arith) in
     let front = flatMap stateOf (take (l .i) ls) in
     let more = ap (λ (b : List ℕ). front ++ b) (all ∙ w .write-words .ensures) ∙ flat-more stateOf ls (l .i) _ (rw (four s) (omega arith)) in
-    let grown = ap length (sym more) ∙ length-append front (take 64 (w .write-words .result)) ∙ ap (λ (b : List ℕ). length front + length b) all in
-    (omega arith, search needs, grown ∙ omega (arith, l .inv .2), filled-turn 256 front (take 64 (w .write-words .result)) (l .inv .3) (sym (l .inv .2)) (c .before .store .ensures) ∙ ap (pad 256) more)
+    let grown = ap length (sym more) ∙ length-append front (take 64 (w .write-words .result)) ∙ ap (λ (b : List ℕ). length front + length b) all in (
+      omega arith,
+      search needs,
+      grown ∙ omega (arith, l .inv .2),
+      filled-turn 256 front (take 64 (w .write-words .result)) (l .inv .3) (sym (l .inv .2)) (c .before .store .ensures) ∙ ap (pad 256) more,
+    )
 
 returns : tie.Need-returns Inv-loop μ-loop
 returns c =

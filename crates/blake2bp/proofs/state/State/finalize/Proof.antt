@@ -59,4 +59,15 @@ returns-2 c =
     ∙ ap (λ (ls : List Leaf). reads .made (take (s .«hash_length») (rooted BLAKE2b (s .«root_words») (map wordsOf ls)))) (rw (sub-zero (s .«buf_len»)) at (e .finish-leaves .ensures)))
 
 pub finalize-spec : {M : Type 1} → statement M
-finalize-spec = tie.close (tie.spec (λ c κs. search needs) (λ c κs. search needs) returns (λ c. search needs) (λ c. search needs) part-finish-leaves-end finish-leaves-requires (λ c κs. search needs) returns-2)
+finalize-spec =
+    tie.close
+    (tie.spec
+    (λ c κs. search needs)
+    (λ c κs. search needs)
+    returns
+    (λ c. search needs)
+    (λ c. search needs)
+    part-finish-leaves-end
+    finish-leaves-requires
+    (λ c κs. search needs)
+    returns-2)

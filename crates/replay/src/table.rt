@@ -85,7 +85,8 @@ pub const PARAMS_KEY_BLOCK: usize = 39;
 
 pub const PARAMS_TO_WORDS: usize = 40;
 
-pub fn read(line: &[u8], space: &mut [u8]) -> Call {
+// A line read as a call of this table.
+pub fn read(line: &[u8]) -> Call {
     read_line(
         line,
         b"params new;\
@@ -129,6 +130,5 @@ pub fn read(line: &[u8], space: &mut [u8]) -> Call {
           params digest_length;\
           params key_block;\
           params to_words",
-        space,
     )
 }

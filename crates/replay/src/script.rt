@@ -11,6 +11,8 @@ pub fn run(session: Session, call: Call, message: &[u8]) -> Session {
     let n = call.first;
     let params = session.params;
     let state = session.state;
+    let last = session.last;
+    let kept = session.kept;
     match row {
         table::PARAMS_NEW..=table::PARAMS_LAST_NODE => session.with_params(records::set(
             params,
@@ -33,6 +35,12 @@ pub fn run(session: Session, call: Call, message: &[u8]) -> Session {
             message,
         )),
         table::DIGEST_KEEP => session.with_kept(),
-        _ => session.with_answer(shown::show(session, row, n, message)),
+        table::PARAMS_IN_RANGE..=table::PARAMS_TO_WORDS =>
+            session.with_answer(shown::tell_of_params(params, row)),
+        table::STATE_COUNT..=table::STATE_IN_RANGE => session.with_answer(shown::tell_of_state(
+            state,
+            row,
+        )),
+        _ => session.with_answer(shown::tell_of_digest(last, kept, row, n, message)),
     }
 }

@@ -1,6 +1,5 @@
 // The calls of a script that hand back no record, and leave all records as they are.
 // An output that a call writes to is filled beforehand, so that untouched bytes are seen.
-use crate::session::Session;
 use crate::table;
 use blake2b::CountAnswer;
 use blake2b::EqualAnswer;
@@ -8,6 +7,7 @@ use blake2b::Hash;
 use blake2b::HashAnswer;
 use blake2b::LengthAnswer;
 use blake2b::Params;
+use blake2b::State;
 use hash::is_digest_length;
 use replay_text::Answer;
 use replay_text::COUNT;
@@ -76,8 +76,7 @@ fn written(hash: Hash, row: usize, room: usize) -> Answer {
     answer_of_bytes(answer.number, answer.length, bytes, shown)
 }
 
-// What parameters tell of themselves.
-fn told(params: Params, row: usize) -> Answer {
+pub fn tell_of_params(params: Params, row: usize) -> Answer {
     match row {
         table::PARAMS_IN_RANGE => answer_of_yes(params.in_range()),
         table::PARAMS_IS_KEYED => answer_of_yes(params.is_keyed()),
@@ -88,18 +87,21 @@ fn told(params: Params, row: usize) -> Answer {
     }
 }
 
-pub fn show(session: Session, row: usize, n: u64, message: &[u8]) -> Answer {
-    let state = session.state;
-    let last = session.last;
+pub fn tell_of_state(state: State, row: usize) -> Answer {
     match row {
         table::STATE_COUNT => answer_of_count(state.count()),
-        table::STATE_IN_RANGE => answer_of_yes(state.in_range()),
+        _ => answer_of_yes(state.in_range()),
+    }
+}
+
+// Of the last digest, and the one that was kept.
+pub fn tell_of_digest(last: Hash, kept: Hash, row: usize, n: u64, message: &[u8]) -> Answer {
+    match row {
         table::DIGEST_LEN => answer_of_length(last.len()),
-        table::DIGEST_IN_RANGE => answer_of_yes(last.in_range()),
-        table::DIGEST_EQUALS => answer_of_equal(last.equals(session.kept)),
+        table::DIGEST_EQUALS => answer_of_equal(last.equals(kept)),
         table::DIGEST_EQUALS_BYTES => answer_of_equal(last.equals_bytes(message)),
+        table::DIGEST_IN_RANGE => answer_of_yes(last.in_range()),
         table::DIGEST_IS_DIGEST_LENGTH => answer_of_yes(is_digest_length(n as usize)),
-        table::DIGEST_WRITE_BYTES..=table::DIGEST_WRITTEN_HEX => written(last, row, n as usize),
-        _ => told(session.params, row),
+        _ => written(last, row, n as usize),
     }
 }

@@ -77,8 +77,12 @@ fn put_byte(out: &mut [u8], at: usize, byte: u8, answer: Answer) -> usize {
     }
 }
 
-// The answer's text, put to the front of a buffer.
-fn put_text(out: &mut [u8], text: &[u8], answer: Answer) -> usize {
+// The line that says the answer, with its line feed.
+pub fn put_answer(out: &mut [u8], answer: Answer) -> usize {
+    let texts = b"1malformed command\n;2malformed number\n;3malformed message\n;4malformed line\n;\
+                  5number=N\n;6number=N index=V\n;7number=N count=V\n;8number=N length=V\n;\
+                  9number=N equal=V\n;Anumber=N length=V bytes=B\n;";
+    let text = before(after(texts, answer.kind), b';');
     let mut at: usize = 0;
     let mut i: usize = 0;
     while i < text.len() {
@@ -86,12 +90,4 @@ fn put_text(out: &mut [u8], text: &[u8], answer: Answer) -> usize {
         i += 1;
     }
     at
-}
-
-// The line that says the answer, with its line feed.
-pub fn put_answer(out: &mut [u8], answer: Answer) -> usize {
-    let texts = b"1malformed command\n;2malformed number\n;3malformed message\n;4malformed line\n;\
-                  5number=N\n;6number=N index=V\n;7number=N count=V\n;8number=N length=V\n;\
-                  9number=N equal=V\n;Anumber=N length=V bytes=B\n;";
-    put_text(out, before(after(texts, answer.kind), b';'), answer)
 }

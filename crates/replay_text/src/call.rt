@@ -30,7 +30,8 @@ pub struct Call {
     pub second: u64,
     pub third: u64,
     pub fourth: u64,
-    // The bytes of text that are left for a message, and how many bytes that has: any where it is the largest number, no message where it is 0.
+    // Whether the call takes a message, how much text is left for it, and how many bytes it has: any where that is the largest number.
+    takes_message: bool,
     text: usize,
     count: u64,
     // Where in the space the message lies: nowhere where the call takes none.
@@ -75,6 +76,7 @@ fn no_call(fault: u8) -> Call {
         second: 0,
         third: 0,
         fourth: 0,
+        takes_message: false,
         text: 0,
         count: 0,
         from: 0,
@@ -103,29 +105,15 @@ fn past<'a>(takes: &[u8], text: &'a [u8]) -> &'a [u8] {
     text
 }
 
-// The text of the next number: all that is left where the row takes nothing behind it.
-fn number_text<'a>(text: &'a [u8], is_last: bool) -> &'a [u8] {
-    if is_last {
-        return text;
-    }
-    before(text, b' ')
-}
-
-// The next number: 0 where the row takes none.
+// The next number: 0 where the row takes none. Where it takes nothing behind it, all that is left is the number's text.
 fn number(takes: &[u8], text: &[u8]) -> Number {
-    if is_number(takes) {
-        let is_last = after(takes, b' ').len() == 0;
-        return read_number(number_text(text, is_last), limit(before(takes, b' ')));
+    if !is_number(takes) {
+        return Number::Value(0);
     }
-    Number::Value(0)
-}
-
-// How many bytes a message has.
-fn message_count(takes: &[u8]) -> u64 {
-    if takes.len() == 0 {
-        return 0;
+    if after(takes, b' ').len() == 0 {
+        return read_number(text, limit(takes));
     }
-    limit(part(takes, 1, takes.len()))
+    read_number(before(text, b' '), limit(before(takes, b' ')))
 }
 
 // The words behind the name, as the call of the row takes them.
@@ -148,6 +136,7 @@ fn with_words(row: usize, takes0: &[u8], text0: &[u8]) -> Call {
     let Number::Value(n3) = number(takes3, text3) else {
         return no_call(NUMBER);
     };
+    let takes = past(takes3, takes3);
     Call {
         row,
         fault: NOTHING,
@@ -155,8 +144,9 @@ fn with_words(row: usize, takes0: &[u8], text0: &[u8]) -> Call {
         second: n1,
         third: n2,
         fourth: n3,
+        takes_message: takes.len() > 0,
         text: past(takes3, text3).len(),
-        count: message_count(past(takes3, takes3)),
+        count: limit(part(takes, 1, takes.len())),
         from: 0,
         to: 0,
     }
@@ -203,7 +193,7 @@ fn is_taken(from: usize, to: usize, count: u64) -> bool {
 
 // The call with its message, which is made in the space.
 pub fn with_message(call: Call, line: &[u8], space: &mut [u8]) -> Call {
-    if call.count == 0 {
+    if !call.takes_message {
         return call;
     }
     let Message::From(from, to) = read_message(last_bytes(line, call.text), space) else {

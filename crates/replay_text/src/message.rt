@@ -33,29 +33,13 @@ fn digit_value(digit: u8) -> u8 {
     }
 }
 
-fn are_digits(text: &[u8]) -> bool {
-    let mut i: usize = 0;
-    while i < text.len() {
-        if digit_value(text[i]) > 15 {
-            return false;
-        }
-        i += 1;
-    }
-    true
-}
-
-// The value of the digit at a place, or 0.
-fn value_at(digits: &[u8], at: usize) -> u8 {
-    if at < digits.len() {
-        return digit_value(digits[at]) % 16;
-    }
-    0
-}
-
-// The byte of the two digits from a place on.
+// The byte of the two digits from a place on: 0 where there are none.
 fn byte_of(digits: &[u8], place: u64) -> u8 {
     let at = (place % 0x8000_0000) as usize;
-    value_at(digits, at) % 16 * 16 + value_at(digits, at + 1) % 16
+    if at + 1 < digits.len() {
+        return digit_value(digits[at]) % 16 * 16 + digit_value(digits[at + 1]) % 16;
+    }
+    0
 }
 
 // The generator of C's rand in many of its first libraries.
@@ -99,11 +83,17 @@ fn kind_of(text: &[u8]) -> u8 {
     text[0]
 }
 
-// The number of bytes that digits write.
-fn length_of_digits(digits: &[u8], most: u64) -> Number {
-    let length = (digits.len() / 2) as u64;
-    if digits.len() % 2 == 0 && length <= most && are_digits(digits) {
-        return Number::Value(length);
+// The number of bytes that digits write. No line has so many that they wouldn't fit the space.
+fn length_of_digits(digits: &[u8]) -> Number {
+    let mut i: usize = 0;
+    while i < digits.len() {
+        if digit_value(digits[i]) > 15 {
+            return Number::Malformed;
+        }
+        i += 1;
+    }
+    if i % 2 == 0 {
+        return Number::Value((i / 2) as u64);
     }
     Number::Malformed
 }
@@ -111,7 +101,7 @@ fn length_of_digits(digits: &[u8], most: u64) -> Number {
 // The message's length, which is at most `most`.
 fn length_of(kind: u8, text: &[u8], most: u64) -> Number {
     match kind {
-        HEXADECIMAL => length_of_digits(text, most),
+        HEXADECIMAL => length_of_digits(text),
         COUNTED | GENERATED => read_number(before(text, b':'), most),
         _ => Number::Malformed,
     }
@@ -141,28 +131,19 @@ fn read_whole(text: &[u8], space: &mut [u8]) -> Message {
     Message::From(0, length)
 }
 
-// FROM:TO, of a message of so many bytes.
-fn read_part(text: &[u8], length: usize) -> Message {
-    let Number::Value(to) = read_number(after(text, b':'), length as u64) else {
+// FROM:TO], of a message of so many bytes.
+fn cut(text: &[u8], length: usize) -> Message {
+    let inside = before(text, b']');
+    if inside.len() + 1 != text.len() {
+        return Message::Malformed;
+    }
+    let Number::Value(to) = read_number(after(inside, b':'), length as u64) else {
         return Message::Malformed;
     };
-    let Number::Value(from) = read_number(before(text, b':'), to) else {
+    let Number::Value(from) = read_number(before(inside, b':'), to) else {
         return Message::Malformed;
     };
     Message::From(from as usize, to as usize)
-}
-
-// FROM:TO], which is the end of the text.
-fn cut(text: &[u8], length: usize) -> Message {
-    let end = text.len();
-    if end == 0 {
-        return Message::Malformed;
-    }
-    let last = end - 1;
-    if text[last] == b']' {
-        return read_part(part(text, 0, last), length);
-    }
-    Message::Malformed
 }
 
 pub fn read_message(text: &[u8], space: &mut [u8]) -> Message {

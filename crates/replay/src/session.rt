@@ -1,20 +1,23 @@
-// What a script has at hand between two lines, and what a call makes of it.
-// Every call takes the session and hands it back, with the length of the answer that it put.
+// What a script has at hand between two lines, and what the last call answered.
+// The record that a call hands back becomes the current one, also where it refused.
+use crate::shown::answer_of_digest;
 use blake2b::Hash;
+use blake2b::HashAnswer;
 use blake2b::Params;
+use blake2b::ParamsAnswer;
 use blake2b::State;
+use blake2b::StateAnswer;
+use replay_text::Answer;
+use replay_text::PLAIN;
+use replay_text::answer_of;
 
 pub struct Session {
-    pub(crate) params: Params,
+    pub params: Params,
     pub(crate) state: State,
     // The digest that was answered last, and the one that was kept to compare with.
     pub(crate) last: Hash,
     pub(crate) kept: Hash,
-}
-
-pub struct Reply {
-    pub session: Session,
-    pub length: usize,
+    pub answer: Answer,
 }
 
 impl Session {
@@ -23,46 +26,55 @@ impl Session {
         let state = State::new();
         let last = Hash::zero();
         let kept = Hash::zero();
+        let answer = answer_of(0, PLAIN, 0);
         Session {
             params,
             state,
             last,
             kept,
+            answer,
         }
     }
 
-    pub fn params(self) -> Params {
-        self.params
-    }
-
-    pub fn with_params(self, params: Params) -> Self {
+    pub(crate) fn with_params(self, answer: ParamsAnswer) -> Self {
+        let params = answer.params;
+        let shown = answer_of(answer.number, PLAIN, 0);
         let mut s = self;
         s.params = params;
+        s.answer = shown;
         s
     }
 
-    pub fn with_state(self, state: State) -> Self {
+    pub(crate) fn with_state(self, answer: StateAnswer) -> Self {
+        let state = answer.state;
+        let shown = answer_of(answer.number, PLAIN, 0);
         let mut s = self;
         s.state = state;
+        s.answer = shown;
         s
     }
 
-    pub fn with_last(self, last: Hash) -> Self {
+    pub(crate) fn with_last(self, answer: HashAnswer) -> Self {
+        let hash = answer.hash;
+        let shown = answer_of_digest(answer);
         let mut s = self;
-        s.last = last;
+        s.last = hash;
+        s.answer = shown;
         s
     }
 
-    pub fn with_kept(self, kept: Hash) -> Self {
+    pub(crate) fn with_kept(self) -> Self {
+        let last = self.last;
+        let shown = answer_of(0, PLAIN, 0);
         let mut s = self;
-        s.kept = kept;
+        s.kept = last;
+        s.answer = shown;
         s
     }
 
-    pub fn answered(self, length: usize) -> Reply {
-        Reply {
-            session: self,
-            length,
-        }
+    pub(crate) fn with_answer(self, answer: Answer) -> Self {
+        let mut s = self;
+        s.answer = answer;
+        s
     }
 }

@@ -1,37 +1,55 @@
-// The calls of a script that hand back no record, and leave the session as it is.
+// The calls of a script that hand back no record, and leave all records as they are.
 // An output that a call writes to is filled beforehand, so that untouched bytes are seen.
-use crate::session::Reply;
-use crate::session::Session;
 use crate::table;
 use blake2b::CountAnswer;
 use blake2b::EqualAnswer;
 use blake2b::Hash;
+use blake2b::HashAnswer;
 use blake2b::LengthAnswer;
+use blake2b::Params;
+use blake2b::State;
+use hash::is_digest_length;
+use replay_text::Answer;
+use replay_text::COUNT;
+use replay_text::EQUAL;
+use replay_text::LENGTH;
+use replay_text::ROOM;
+use replay_text::answer_of;
+use replay_text::answer_of_bytes;
 use replay_text::front;
 use replay_text::part;
-use replay_text::put_bytes;
-use replay_text::put_field;
+use replay_text::put;
+use words::write_words;
 
-const FILL: u8 = 0xA5;
-
-// The longest output, in bytes: what the rows of the writes take.
-const ROOM: usize = 1024;
-
-pub fn put_count(out: &mut [u8], answer: CountAnswer) -> usize {
-    put_field(out, answer.number, b" count=", answer.count)
+// A digest, or the refusal in its place.
+pub fn answer_of_digest(answer: HashAnswer) -> Answer {
+    let mut bytes = [0u8; ROOM];
+    let hash = answer.hash;
+    let length = hash.write_bytes(&mut bytes).length;
+    answer_of_bytes(answer.number, length, bytes, length)
 }
 
-fn put_length(out: &mut [u8], answer: LengthAnswer) -> usize {
-    put_field(out, answer.number, b" length=", answer.length as u64)
+pub fn answer_of_count(answer: CountAnswer) -> Answer {
+    answer_of(answer.number, COUNT, answer.count)
 }
 
-pub(crate) fn put_equal(out: &mut [u8], answer: EqualAnswer) -> usize {
-    put_field(out, answer.number, b" equal=", answer.equal as u64)
+// Yes or no, shown as a comparison is.
+pub fn answer_of_yes(yes: bool) -> Answer {
+    answer_of(0, EQUAL, yes as u64)
 }
 
-// An output that is not written to yet.
-pub fn filled() -> [u8; ROOM] {
-    [FILL; ROOM]
+fn answer_of_length(answer: LengthAnswer) -> Answer {
+    answer_of(answer.number, LENGTH, answer.length as u64)
+}
+
+fn answer_of_equal(answer: EqualAnswer) -> Answer {
+    answer_of(answer.number, EQUAL, answer.equal as u64)
+}
+
+fn answer_of_all(bytes: &[u8]) -> Answer {
+    let mut all = [0u8; ROOM];
+    let length = put(&mut all, 0, bytes);
+    answer_of_bytes(0, length, all, length)
 }
 
 fn write(hash: Hash, row: usize, output: &mut [u8]) -> LengthAnswer {
@@ -50,26 +68,40 @@ fn seen<'a>(hash: Hash, row: usize, output: &'a [u8]) -> &'a [u8] {
     }
 }
 
-fn put_output(out: &mut [u8], hash: Hash, row: usize, room: usize) -> usize {
-    let mut buffer = filled();
-    let answer = write(hash, row, front(&mut buffer, room));
-    let bytes = seen(hash, row, part(&buffer, 0, room));
-    put_bytes(out, answer.number, answer.length, bytes)
+fn written(hash: Hash, row: usize, room: usize) -> Answer {
+    let mut output = [0xA5u8; ROOM];
+    let answer = write(hash, row, front(&mut output, room));
+    let mut bytes = [0u8; ROOM];
+    let shown = put(&mut bytes, 0, seen(hash, row, part(&output, 0, room)));
+    answer_of_bytes(answer.number, answer.length, bytes, shown)
 }
 
-fn show(session: Session, row: usize, n: u64, message: &[u8], out: &mut [u8]) -> usize {
-    let state = session.state;
-    let last = session.last;
-    let kept = session.kept;
+pub fn tell_of_params(params: Params, row: usize) -> Answer {
     match row {
-        table::STATE_COUNT => put_count(out, state.count()),
-        table::DIGEST_LEN => put_length(out, last.len()),
-        table::DIGEST_EQUALS => put_equal(out, last.equals(kept)),
-        table::DIGEST_EQUALS_BYTES => put_equal(out, last.equals_bytes(message)),
-        _ => put_output(out, last, row, n as usize),
+        table::PARAMS_IN_RANGE => answer_of_yes(params.in_range()),
+        table::PARAMS_IS_KEYED => answer_of_yes(params.is_keyed()),
+        table::PARAMS_IS_LAST_NODE => answer_of_yes(params.is_last_node()),
+        table::PARAMS_DIGEST_LENGTH => answer_of(0, LENGTH, params.digest_length() as u64),
+        table::PARAMS_KEY_BLOCK => answer_of_all(&params.key_block()),
+        _ => answer_of_all(&write_words(params.to_words())),
     }
 }
 
-pub fn call(session: Session, row: usize, n: u64, message: &[u8], out: &mut [u8]) -> Reply {
-    session.answered(show(session, row, n, message, out))
+pub fn tell_of_state(state: State, row: usize) -> Answer {
+    match row {
+        table::STATE_COUNT => answer_of_count(state.count()),
+        _ => answer_of_yes(state.in_range()),
+    }
+}
+
+// Of the last digest, and the one that was kept.
+pub fn tell_of_digest(last: Hash, kept: Hash, row: usize, n: u64, message: &[u8]) -> Answer {
+    match row {
+        table::DIGEST_LEN => answer_of_length(last.len()),
+        table::DIGEST_EQUALS => answer_of_equal(last.equals(kept)),
+        table::DIGEST_EQUALS_BYTES => answer_of_equal(last.equals_bytes(message)),
+        table::DIGEST_IN_RANGE => answer_of_yes(last.in_range()),
+        table::DIGEST_IS_DIGEST_LENGTH => answer_of_yes(is_digest_length(n as usize)),
+        _ => written(last, row, n as usize),
+    }
 }

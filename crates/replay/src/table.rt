@@ -51,41 +51,42 @@ pub const DIGEST_FROM_WORDS: usize = 22;
 
 pub const DIGEST_KEEP: usize = 23;
 
-pub const STATE_COUNT: usize = 24;
+pub const PARAMS_IN_RANGE: usize = 24;
 
-pub const DIGEST_LEN: usize = 25;
+pub const PARAMS_IS_KEYED: usize = 25;
 
-pub const DIGEST_EQUALS: usize = 26;
+pub const PARAMS_IS_LAST_NODE: usize = 26;
 
-pub const DIGEST_EQUALS_BYTES: usize = 27;
+pub const PARAMS_DIGEST_LENGTH: usize = 27;
 
-pub const DIGEST_WRITE_BYTES: usize = 28;
+pub const PARAMS_KEY_BLOCK: usize = 28;
 
-pub const DIGEST_WRITE_HEX: usize = 29;
+pub const PARAMS_TO_WORDS: usize = 29;
 
-pub const DIGEST_WRITTEN_BYTES: usize = 30;
+pub const STATE_COUNT: usize = 30;
 
-pub const DIGEST_WRITTEN_HEX: usize = 31;
+pub const STATE_IN_RANGE: usize = 31;
 
-pub const PARAMS_IN_RANGE: usize = 32;
+pub const DIGEST_LEN: usize = 32;
 
-pub const PARAMS_IS_KEYED: usize = 33;
+pub const DIGEST_EQUALS: usize = 33;
 
-pub const PARAMS_IS_LAST_NODE: usize = 34;
+pub const DIGEST_EQUALS_BYTES: usize = 34;
 
-pub const STATE_IN_RANGE: usize = 35;
+pub const DIGEST_IN_RANGE: usize = 35;
 
-pub const DIGEST_IN_RANGE: usize = 36;
+pub const DIGEST_IS_DIGEST_LENGTH: usize = 36;
 
-pub const DIGEST_IS_DIGEST_LENGTH: usize = 37;
+pub const DIGEST_WRITE_BYTES: usize = 37;
 
-pub const PARAMS_DIGEST_LENGTH: usize = 38;
+pub const DIGEST_WRITE_HEX: usize = 38;
 
-pub const PARAMS_KEY_BLOCK: usize = 39;
+pub const DIGEST_WRITTEN_BYTES: usize = 39;
 
-pub const PARAMS_TO_WORDS: usize = 40;
+pub const DIGEST_WRITTEN_HEX: usize = 40;
 
-pub fn read(line: &[u8], space: &mut [u8]) -> Call {
+// A line read as a call of this table.
+pub fn read(line: &[u8]) -> Call {
     read_line(
         line,
         b"params new;\
@@ -112,23 +113,22 @@ pub fn read(line: &[u8], space: &mut [u8]) -> Call {
           digest from_bytes:M64;\
           digest from_words:N M64;\
           digest keep;\
-          state count;\
-          digest len;\
-          digest equals;\
-          digest equals_bytes:M;\
-          digest write_bytes:1024;\
-          digest write_hex:1024;\
-          digest written_bytes:1024;\
-          digest written_hex:1024;\
           params in_range;\
           params is_keyed;\
           params is_last_node;\
-          state in_range;\
-          digest in_range;\
-          digest is_digest_length:N;\
           params digest_length;\
           params key_block;\
-          params to_words",
-        space,
+          params to_words;\
+          state count;\
+          state in_range;\
+          digest len;\
+          digest equals;\
+          digest equals_bytes:M;\
+          digest in_range;\
+          digest is_digest_length:N;\
+          digest write_bytes:1024;\
+          digest write_hex:1024;\
+          digest written_bytes:1024;\
+          digest written_hex:1024",
     )
 }

@@ -1,8 +1,5 @@
-// The calls of a script that hand back a bank, and the setting of a record of the next batch.
-// The bank becomes the current one, also where the call refused.
-use crate::session::Reply;
-use crate::session::Session;
-use crate::session::place;
+// The calls of a script on a bank.
+// An output that a call writes to is filled beforehand, so that untouched bytes are seen.
 use crate::table;
 use bank::Bank;
 use bank::BankAnswer;
@@ -11,15 +8,20 @@ use bank::MOST_RECORDS;
 use bank::Piece;
 use blake2b::Params;
 use lent::update_many_of_array;
-use replay_text::put_field;
-use replay_text::put_number;
+use replay::answer_of_count;
+use replay::answer_of_digest;
+use replay_text::Answer;
+use replay_text::Call;
+use replay_text::ROOM;
+use replay_text::answer_of_bytes;
+use replay_text::front;
 
 // The answer of a call that can't refuse.
 fn made(bank: Bank) -> BankAnswer {
     BankAnswer { number: 0, bank }
 }
 
-fn change(bank: Bank, params: Params, row: usize, slot: usize, message: &[u8]) -> BankAnswer {
+pub fn change(bank: Bank, params: Params, row: usize, slot: usize, message: &[u8]) -> BankAnswer {
     match row {
         table::BANK_NEW => made(Bank::new()),
         table::BANK_OPEN => bank.open(slot, params),
@@ -28,29 +30,16 @@ fn change(bank: Bank, params: Params, row: usize, slot: usize, message: &[u8]) -
     }
 }
 
-fn on_slot(session: Session, row: usize, slot: u64, message: &[u8], out: &mut [u8]) -> Reply {
-    let bank = session.bank;
-    let answer = change(bank, session.params(), row, slot as usize, message);
-    let next = answer.bank;
-    let length = put_number(out, answer.number);
-    session.with_bank(next).answered(length)
-}
-
-fn set_piece(session: Session, numbers: [u64; 4], out: &mut [u8]) -> Reply {
-    let piece = Piece {
-        slot: numbers[1] as usize,
-        start: numbers[2] as usize,
-        length: numbers[3] as usize,
-    };
-    let mut pieces = session.pieces;
-    pieces[place(numbers[0])] = piece;
-    let mut next = session;
-    next.pieces = pieces;
-    next.answered(put_number(out, 0))
+pub fn piece(call: Call) -> Piece {
+    Piece {
+        slot: call.second as usize,
+        start: call.third as usize,
+        length: call.fourth as usize,
+    }
 }
 
 // The records as an array, or lent.
-fn batch(
+pub fn batch(
     bank: Bank,
     row: usize,
     pieces: [Piece; MOST_RECORDS],
@@ -63,31 +52,16 @@ fn batch(
     }
 }
 
-fn update_many(session: Session, row: usize, used: u64, data: &[u8], out: &mut [u8]) -> Reply {
-    let bank = session.bank;
-    let pieces = session.pieces;
-    let answer = batch(bank, row, pieces, used as usize, data);
-    let next = answer.bank;
-    let length = put_field(out, answer.number, b" index=", answer.index as u64);
-    session.with_bank(next).answered(length)
+fn digest_to(bank: Bank, slot: usize, room: usize) -> Answer {
+    let mut output = [0xA5u8; ROOM];
+    let answer = bank.digest_to(slot, front(&mut output, room));
+    answer_of_bytes(answer.number, answer.length, output, room)
 }
 
-pub fn call(
-    session: Session,
-    row: usize,
-    numbers: [u64; 4],
-    message: &[u8],
-    out: &mut [u8],
-) -> Reply {
+pub fn show(bank: Bank, row: usize, slot: usize, room: usize) -> Answer {
     match row {
-        table::BANK_PIECE => set_piece(session, numbers, out),
-        table::BANK_UPDATE_MANY..=table::BANK_UPDATE_LENT => update_many(
-            session,
-            row,
-            numbers[0],
-            message,
-            out,
-        ),
-        _ => on_slot(session, row, numbers[0], message, out),
+        table::BANK_DIGEST => answer_of_digest(bank.digest(slot)),
+        table::BANK_DIGEST_TO => digest_to(bank, slot, room),
+        _ => answer_of_count(bank.count(slot)),
     }
 }

@@ -1,49 +1,59 @@
-// A line of a script: a call of this crate's table, or a line that crate replay answers.
-// A line whose name is not in this crate's table goes to crate replay.
+// A call of a script, on a session, with the current parameters.
+// Rows of the table go by what their calls hand back.
 use crate::banks;
-use crate::jobs;
-use crate::session::Reply;
 use crate::session::Session;
-use crate::shown;
 use crate::table;
+use blake2b::Params;
+use held::hash_through_job;
+use many::HashManyJob;
+use many::hash_many;
+use replay::answer_of_digest;
 use replay_text::Call;
-use replay_text::Fault;
-use replay_text::part;
-use replay_text::put_fault;
 
-fn make(session: Session, call: Call, message: &[u8], out: &mut [u8]) -> Reply {
+fn on_jobs(session: Session, params: Params, call: Call, data: &[u8]) -> Session {
     let row = call.row;
-    let fault = call.fault;
-    let numbers = call.numbers;
+    let n = call.first;
+    let jobs = session.jobs;
     match row {
-        table::JOB_NEW..=table::JOB_HELD => jobs::call(session, row, numbers, message, out),
-        table::BANK_NEW..=table::BANK_UPDATE_LENT => banks::call(
-            session,
-            row,
-            numbers,
-            message,
-            out,
+        table::JOB_NEW => session.with_job(
+            n,
+            HashManyJob::new(params, data, call.second as usize, call.third as usize),
         ),
-        table::BANK_DIGEST..=table::BANK_COUNT => shown::call(session, row, numbers, out),
-        _ => session.answered(put_fault(out, fault)),
+        table::JOB_RUN => session.with_jobs(hash_many(jobs, n as usize, data)),
+        table::JOB_HASH => session.with_answer(answer_of_digest(session.job(n).to_hash())),
+        _ => session.with_answer(answer_of_digest(hash_through_job(params, data))),
     }
 }
 
-fn pass_on(session: Session, line: &[u8], space: &mut [u8], out: &mut [u8]) -> Reply {
-    let base = session.base;
-    let done = replay::run_line(base, line, space, out);
-    let next = done.session;
-    let mut after = session;
-    after.base = next;
-    after.answered(done.length)
+fn on_bank(session: Session, params: Params, call: Call, message: &[u8]) -> Session {
+    let row = call.row;
+    let n = call.first as usize;
+    let bank = session.bank;
+    let pieces = session.pieces;
+    match row {
+        table::BANK_PIECE => session.with_piece(call.first, banks::piece(call)),
+        table::BANK_UPDATE_MANY..=table::BANK_UPDATE_LENT => session.with_batch(banks::batch(
+            bank,
+            row,
+            pieces,
+            n,
+            message,
+        )),
+        table::BANK_NEW..=table::BANK_CLOSE => session.with_bank(banks::change(
+            bank,
+            params,
+            row,
+            n,
+            message,
+        )),
+        _ => session.with_answer(banks::show(bank, row, n, call.second as usize)),
+    }
 }
 
-// One line of a script. Messages are made in the space, and the answer goes to the output: nothing where there is none.
-pub fn run_line(session: Session, line: &[u8], space: &mut [u8], out: &mut [u8]) -> Reply {
-    let call = table::read(line, space);
-    let fault = call.fault;
-    match fault {
-        Fault::Command => pass_on(session, line, space, out),
-        _ => make(session, call, part(space, call.from, call.to), out),
+pub fn run(session: Session, params: Params, call: Call, message: &[u8]) -> Session {
+    let row = call.row;
+    match row {
+        table::JOB_NEW..=table::JOB_HELD => on_jobs(session, params, call, message),
+        _ => on_bank(session, params, call, message),
     }
 }

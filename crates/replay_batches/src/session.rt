@@ -1,28 +1,30 @@
-// What a script has at hand between two lines: crate replay's session, whose parameters all calls take, jobs and a bank.
-// Every call takes the session and hands it back, with the length of the answer that it put.
+// What a script has at hand between two lines for its calls on jobs and a bank, and what the last call answered.
+// The record that a call hands back becomes the current one, also where it refused, and so does a refused batch.
 use bank::Bank;
+use bank::BankAnswer;
+use bank::BatchAnswer;
 use bank::MOST_RECORDS;
 use bank::Piece;
-use blake2b::Params;
 use many::HashManyJob;
+use many::JobAnswer;
+use many::JobsAnswer;
 use many::MOST_JOBS;
+use replay_text::Answer;
+use replay_text::INDEX;
+use replay_text::PLAIN;
+use replay_text::answer_of;
 ghost use Prim.Native.Nat.{_<_};
 
 pub struct Session {
-    pub(crate) base: replay::Session,
     pub(crate) jobs: [HashManyJob; MOST_JOBS],
     pub(crate) bank: Bank,
     // The records of the next batch.
     pub(crate) pieces: [Piece; MOST_RECORDS],
-}
-
-pub struct Reply {
-    pub session: Session,
-    pub length: usize,
+    pub answer: Answer,
 }
 
 // The place of a job or a record: all of a number that was read as at most 15.
-pub(crate) fn place(n: u64) -> usize
+fn place(n: u64) -> usize
     ensures { λ r. ⌜ r < 16 ⌝ }
 {
     (n % 16) as usize
@@ -30,7 +32,6 @@ pub(crate) fn place(n: u64) -> usize
 
 impl Session {
     pub fn new() -> Self {
-        let base = replay::Session::new();
         let job = HashManyJob::zero();
         let bank = Bank::new();
         let piece = Piece {
@@ -38,35 +39,71 @@ impl Session {
             start: 0,
             length: 0,
         };
+        let answer = answer_of(0, PLAIN, 0);
         Session {
-            base,
             jobs: [job; MOST_JOBS],
             bank,
             pieces: [piece; MOST_RECORDS],
+            answer,
         }
     }
 
-    pub(crate) fn params(self) -> Params {
-        let base = self.base;
-        base.params()
+    pub(crate) fn job(self, n: u64) -> HashManyJob {
+        let jobs = self.jobs;
+        jobs[place(n)]
     }
 
-    pub(crate) fn with_jobs(self, jobs: [HashManyJob; MOST_JOBS]) -> Self {
+    pub(crate) fn with_job(self, n: u64, answer: JobAnswer) -> Self {
+        let job = answer.job;
+        let mut jobs = self.jobs;
+        jobs[place(n)] = job;
+        let shown = answer_of(answer.number, PLAIN, 0);
         let mut s = self;
         s.jobs = jobs;
+        s.answer = shown;
         s
     }
 
-    pub(crate) fn with_bank(self, bank: Bank) -> Self {
+    pub(crate) fn with_jobs(self, answer: JobsAnswer) -> Self {
+        let jobs = answer.jobs;
+        let shown = answer_of(answer.number, INDEX, answer.index as u64);
+        let mut s = self;
+        s.jobs = jobs;
+        s.answer = shown;
+        s
+    }
+
+    pub(crate) fn with_piece(self, n: u64, piece: Piece) -> Self {
+        let mut pieces = self.pieces;
+        pieces[place(n)] = piece;
+        let shown = answer_of(0, PLAIN, 0);
+        let mut s = self;
+        s.pieces = pieces;
+        s.answer = shown;
+        s
+    }
+
+    pub(crate) fn with_bank(self, answer: BankAnswer) -> Self {
+        let bank = answer.bank;
+        let shown = answer_of(answer.number, PLAIN, 0);
         let mut s = self;
         s.bank = bank;
+        s.answer = shown;
         s
     }
 
-    pub(crate) fn answered(self, length: usize) -> Reply {
-        Reply {
-            session: self,
-            length,
-        }
+    pub(crate) fn with_batch(self, answer: BatchAnswer) -> Self {
+        let bank = answer.bank;
+        let shown = answer_of(answer.number, INDEX, answer.index as u64);
+        let mut s = self;
+        s.bank = bank;
+        s.answer = shown;
+        s
+    }
+
+    pub(crate) fn with_answer(self, answer: Answer) -> Self {
+        let mut s = self;
+        s.answer = answer;
+        s
     }
 }

@@ -31,7 +31,8 @@ pub const BANK_DIGEST_TO: usize = 12;
 
 pub const BANK_COUNT: usize = 13;
 
-pub fn read(line: &[u8], space: &mut [u8]) -> Call {
+// A line read as a call of this table.
+pub fn read(line: &[u8]) -> Call {
     read_line(
         line,
         b"job new:15 N N M;\
@@ -48,6 +49,5 @@ pub fn read(line: &[u8], space: &mut [u8]) -> Call {
           bank digest:N;\
           bank digest_to:N 1024;\
           bank count:N",
-        space,
     )
 }

@@ -1,11 +1,10 @@
-// The interpreter of a script's calls on BLAKE2bp; crates replay and replay_batches have all other calls.
+// The interpreter of a script's calls on BLAKE2bp.
 // Test code: safe by proof, with no promise of its own. docs/REPLAY.md has the format.
-mod records;
+mod calls;
 mod script;
 mod session;
-mod shown;
 mod table;
 
-pub use script::run_line;
-pub use session::Reply;
+pub use script::run;
 pub use session::Session;
+pub use table::read;

@@ -1,44 +1,27 @@
-// A line of a script: a call of this crate's table, or a line for another crate to answer.
-// A line that names a call and gives it something else is answered with what is wrong, and changes nothing.
-use crate::records;
-use crate::session::Reply;
+// A call of a script, on a session.
+// Rows of the table go by what their calls hand back.
+use crate::calls;
 use crate::session::Session;
-use crate::shown;
 use crate::table;
 use replay_text::Call;
-use replay_text::Fault;
-use replay_text::part;
-use replay_text::put_fault;
 
-fn make(session: Session, call: Call, message: &[u8], out: &mut [u8]) -> Reply {
+pub fn run(session: Session, call: Call, message: &[u8]) -> Session {
     let row = call.row;
-    let fault = call.fault;
-    let numbers = call.numbers;
+    let params = session.params;
+    let state = session.state;
     match row {
-        table::PARAMS_NEW..=table::PARAMS_KEY => records::call_on_params(
-            session,
+        table::PARAMS_NEW..=table::PARAMS_KEY => session.with_params(calls::set(
+            params,
             row,
-            numbers[0],
+            call.first,
             message,
-            out,
-        ),
-        table::STATE_NEW..=table::STATE_UPDATE => records::call_on_state(
-            session,
+        )),
+        table::STATE_NEW..=table::STATE_UPDATE => session.with_state(calls::change(
+            params,
+            state,
             row,
             message,
-            out,
-        ),
-        table::STATE_FINALIZE..=table::STATE_IN_RANGE => shown::call(session, row, message, out),
-        _ => session.answered(put_fault(out, fault)),
-    }
-}
-
-// One line of a script. Messages are made in the space, and the answer goes to the output: nothing where there is none.
-pub fn run_line(session: Session, line: &[u8], space: &mut [u8], out: &mut [u8]) -> Reply {
-    let call = table::read(line, space);
-    let fault = call.fault;
-    match fault {
-        Fault::Command => session.not_named(),
-        _ => make(session, call, part(space, call.from, call.to), out),
+        )),
+        _ => session.with_answer(calls::show(params, state, row, message)),
     }
 }

@@ -33,7 +33,8 @@ pub const PARAMS_IN_RANGE: usize = 13;
 
 pub const STATE_IN_RANGE: usize = 14;
 
-pub fn read(line: &[u8], space: &mut [u8]) -> Call {
+// A line read as a call of this table.
+pub fn read(line: &[u8]) -> Call {
     read_line(
         line,
         b"bp params new;\
@@ -51,6 +52,5 @@ pub fn read(line: &[u8], space: &mut [u8]) -> Call {
           bp state buffered;\
           bp params in_range;\
           bp state in_range",
-        space,
     )
 }

@@ -1,43 +1,93 @@
-// The line that answers a line of a script: a call's number and fields, or what is wrong with the line.
-// Like all output it is put to a lent buffer. The line feed is not in it.
-use crate::output::put;
+// What a line of a script is answered: a call's number, a field and bytes, or what is wrong with the line.
+// Each kind of answer has a mark, by which its text is found: N, V and B stand in it for the number, the value and the bytes.
+use crate::output::part;
+use crate::output::push;
 use crate::output::put_decimal;
 use crate::output::put_hex;
+use crate::text::after;
+use crate::text::before;
+
+// The most bytes that an answer shows.
+pub const ROOM: usize = 1024;
+
+// No answer: to an empty line and to a comment.
+pub const NOTHING: u8 = b'0';
 
 // What is wrong with a line.
-pub enum Fault {
-    Nothing,
-    Command,
-    Number,
-    Message,
-    Line,
+pub const COMMAND: u8 = b'1';
+
+pub const NUMBER: u8 = b'2';
+
+pub const MESSAGE: u8 = b'3';
+
+pub const LINE: u8 = b'4';
+
+// A number, and what is behind it.
+pub const PLAIN: u8 = b'5';
+
+pub const INDEX: u8 = b'6';
+
+pub const COUNT: u8 = b'7';
+
+pub const LENGTH: u8 = b'8';
+
+pub const EQUAL: u8 = b'9';
+
+const BYTES: u8 = b'A';
+
+pub struct Answer {
+    kind: u8,
+    number: u8,
+    value: u64,
+    bytes: [u8; ROOM],
+    shown: usize,
 }
 
-pub fn put_fault(out: &mut [u8], fault: Fault) -> usize {
-    match fault {
-        Fault::Nothing => 0,
-        Fault::Command => put(out, 0, b"malformed command"),
-        Fault::Number => put(out, 0, b"malformed number"),
-        Fault::Message => put(out, 0, b"malformed message"),
-        Fault::Line => put(out, 0, b"malformed line"),
+pub fn answer_of(number: u8, kind: u8, value: u64) -> Answer {
+    Answer {
+        kind,
+        number,
+        value,
+        bytes: [0; ROOM],
+        shown: 0,
     }
 }
 
-pub fn put_number(out: &mut [u8], number: u8) -> usize {
-    let at = put(out, 0, b"number=");
-    put_decimal(out, at, number as u64)
+// The number, a length, and the first so many of the bytes.
+pub fn answer_of_bytes(number: u8, length: usize, bytes: [u8; ROOM], shown: usize) -> Answer {
+    Answer {
+        kind: BYTES,
+        number,
+        value: length as u64,
+        bytes,
+        shown,
+    }
 }
 
-// The number, and a field.
-pub fn put_field(out: &mut [u8], number: u8, name: &[u8], value: u64) -> usize {
-    let at = put_number(out, number);
-    let end = put(out, at, name);
-    put_decimal(out, end, value)
+// A byte of the answer's text, or what it stands for.
+fn put_byte(out: &mut [u8], at: usize, byte: u8, answer: Answer) -> usize {
+    match byte {
+        b'N' => put_decimal(out, at, answer.number as u64),
+        b'V' => put_decimal(out, at, answer.value),
+        b'B' => {
+            let bytes = answer.bytes;
+            put_hex(out, at, part(&bytes, 0, answer.shown))
+        }
+        _ => push(out, at, byte),
+    }
 }
 
-// The number, a length, and bytes.
-pub fn put_bytes(out: &mut [u8], number: u8, length: usize, bytes: &[u8]) -> usize {
-    let at = put_field(out, number, b" length=", length as u64);
-    let end = put(out, at, b" bytes=");
-    put_hex(out, end, bytes)
+// The line that says the answer, with its line feed.
+pub fn put_answer(out: &mut [u8], answer: Answer) -> usize {
+    let texts = b"1malformed command\n;2malformed number\n;3malformed message\n;4malformed line\n;\
+                  5number=N\n;6number=N index=V\n;7number=N count=V\n;8number=N length=V\n;\
+                  9number=N equal=V\n;Anumber=N length=V bytes=B\n;";
+    let text = before(after(texts, answer.kind), b';');
+    let mut at: usize = 0;
+    let mut i: usize = 0;
+    while i < text.len() {
+        at = put_byte(out, at, text[i], answer);
+        i += 1;
+    }
+    at
 }

@@ -14,11 +14,14 @@ pub enum Message {
     Malformed,
 }
 
-// How a byte follows the one in front of it.
-enum Pattern {
-    Counted,
-    Generated,
-}
+// How a message is written: the letter in front of its first colon.
+const HEXADECIMAL: u8 = b'x';
+
+const COUNTED: u8 = b'c';
+
+const GENERATED: u8 = b'g';
+
+const NONE: u8 = 0;
 
 // The value of a hexadecimal digit, or 16.
 fn digit_value(digit: u8) -> u8 {
@@ -30,30 +33,13 @@ fn digit_value(digit: u8) -> u8 {
     }
 }
 
-// The byte of two hexadecimal digits' values.
-fn joined(high: u8, low: u8) -> u8 {
-    high % 16 * 16 + low % 16
-}
-
-// Every byte is put twice, and its second digit makes it right.
-fn hexadecimal(digits: &[u8], space: &mut [u8]) -> Message {
-    let length = digits.len() / 2;
-    let mut fine = digits.len() % 2 == 0 && length <= space.len();
-    let mut last: u8 = 0;
-    let mut i: usize = 0;
-    while i < digits.len() {
-        let value = digit_value(digits[i]);
-        if value > 15 {
-            fine = false;
-        }
-        push(space, i / 2, joined(last, value));
-        last = value;
-        i += 1;
+// The byte of the two digits from a place on: 0 where there are none.
+fn byte_of(digits: &[u8], place: u64) -> u8 {
+    let at = (place % 0x8000_0000) as usize;
+    if at + 1 < digits.len() {
+        return digit_value(digits[at]) % 16 * 16 + digit_value(digits[at + 1]) % 16;
     }
-    if fine {
-        return Message::From(0, length);
-    }
-    Message::Malformed
+    0
 }
 
 // The generator of C's rand in many of its first libraries.
@@ -61,82 +47,103 @@ fn generated(x: u64) -> u64 {
     (x % 0x8000_0000 * 1103515245 + 12345) % 0x8000_0000
 }
 
-// The byte at a place of a pattern, made of the number there.
-fn byte_at(pattern: Pattern, x: u64) -> u8 {
-    match pattern {
-        Pattern::Counted => low8(x),
-        Pattern::Generated => low8(generated(x) / 65536),
+// The byte that is made of the number x: the place of its digits, itself, or what the generator was at before it.
+fn byte_at(kind: u8, x: u64, digits: &[u8]) -> u8 {
+    match kind {
+        HEXADECIMAL => byte_of(digits, x),
+        COUNTED => low8(x),
+        _ => low8(generated(x) / 65536),
     }
 }
 
-// The number at the place behind it.
-fn next(pattern: Pattern, x: u64) -> u64 {
-    match pattern {
-        Pattern::Counted => x % 256 + 1,
-        Pattern::Generated => generated(x),
+// The number for the byte behind it.
+fn next(kind: u8, x: u64) -> u64 {
+    match kind {
+        HEXADECIMAL => x % 0x8000_0000 + 2,
+        COUNTED => x % 256 + 1,
+        _ => generated(x),
     }
 }
 
-// A pattern of `length` bytes that starts from a number, to the front of the space.
-fn make(pattern: Pattern, first: u64, length: usize, space: &mut [u8]) {
+// A message of `length` bytes, from the number for the first one, to the front of the space.
+fn make(kind: u8, first: u64, length: usize, digits: &[u8], space: &mut [u8]) {
     let mut x = first;
     let mut i: usize = 0;
     while i < length {
-        push(space, i, byte_at(pattern, x));
-        x = next(pattern, x);
+        push(space, i, byte_at(kind, x, digits));
+        x = next(kind, x);
         i += 1;
     }
 }
 
-// LENGTH:FIRST, where FIRST is at most `most`.
-fn read_pattern(pattern: Pattern, most: u64, text: &[u8], space: &mut [u8]) -> Message {
-    let Number::Value(n) = read_number(before(text, b':'), space.len() as u64) else {
-        return Message::Malformed;
-    };
-    let Number::Value(first) = read_number(after(text, b':'), most) else {
-        return Message::Malformed;
-    };
-    let length = n as usize;
-    make(pattern, first, length, space);
-    Message::From(0, length)
+fn kind_of(text: &[u8]) -> u8 {
+    if text.len() < 2 || text[1] != b':' {
+        return NONE;
+    }
+    text[0]
+}
+
+// The number of bytes that digits write. No line has so many that they wouldn't fit the space.
+fn length_of_digits(digits: &[u8]) -> Number {
+    let mut i: usize = 0;
+    while i < digits.len() {
+        if digit_value(digits[i]) > 15 {
+            return Number::Malformed;
+        }
+        i += 1;
+    }
+    if i % 2 == 0 {
+        return Number::Value((i / 2) as u64);
+    }
+    Number::Malformed
+}
+
+// The message's length, which is at most `most`.
+fn length_of(kind: u8, text: &[u8], most: u64) -> Number {
+    match kind {
+        HEXADECIMAL => length_of_digits(text),
+        COUNTED | GENERATED => read_number(before(text, b':'), most),
+        _ => Number::Malformed,
+    }
+}
+
+// The number for the first byte.
+fn first_of(kind: u8, text: &[u8]) -> Number {
+    match kind {
+        HEXADECIMAL => Number::Value(0),
+        COUNTED => read_number(after(text, b':'), 255),
+        _ => read_number(after(text, b':'), 0x7FFF_FFFF),
+    }
 }
 
 // x:DIGITS, c:LENGTH:START or g:LENGTH:SEED
 fn read_whole(text: &[u8], space: &mut [u8]) -> Message {
-    if text.len() < 2 || text[1] != b':' {
-        return Message::Malformed;
-    }
-    let rest = &text[2..];
-    match text[0] {
-        b'x' => hexadecimal(rest, space),
-        b'c' => read_pattern(Pattern::Counted, 255, rest, space),
-        b'g' => read_pattern(Pattern::Generated, 0x7FFF_FFFF, rest, space),
-        _ => Message::Malformed,
-    }
-}
-
-// FROM:TO, of a message of so many bytes.
-fn read_part(text: &[u8], length: usize) -> Message {
-    let Number::Value(to) = read_number(after(text, b':'), length as u64) else {
+    let kind = kind_of(text);
+    let rest = part(text, 2, text.len());
+    let Number::Value(n) = length_of(kind, rest, space.len() as u64) else {
         return Message::Malformed;
     };
-    let Number::Value(from) = read_number(before(text, b':'), to) else {
+    let Number::Value(first) = first_of(kind, rest) else {
+        return Message::Malformed;
+    };
+    let length = n as usize;
+    make(kind, first, length, rest, space);
+    Message::From(0, length)
+}
+
+// FROM:TO], of a message of so many bytes.
+fn cut(text: &[u8], length: usize) -> Message {
+    let inside = before(text, b']');
+    if inside.len() + 1 != text.len() {
+        return Message::Malformed;
+    }
+    let Number::Value(to) = read_number(after(inside, b':'), length as u64) else {
+        return Message::Malformed;
+    };
+    let Number::Value(from) = read_number(before(inside, b':'), to) else {
         return Message::Malformed;
     };
     Message::From(from as usize, to as usize)
-}
-
-// FROM:TO], which is the end of the text.
-fn cut(text: &[u8], length: usize) -> Message {
-    let end = text.len();
-    if end == 0 {
-        return Message::Malformed;
-    }
-    let last = end - 1;
-    if text[last] == b']' {
-        return read_part(part(text, 0, last), length);
-    }
-    Message::Malformed
 }
 
 pub fn read_message(text: &[u8], space: &mut [u8]) -> Message {

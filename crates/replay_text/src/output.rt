@@ -46,11 +46,10 @@ pub fn put_decimal(out: &mut [u8], at: usize, n: u64) -> usize {
 
 // A lower-case hexadecimal digit.
 fn digit(n: u8) -> u8 {
-    match n {
-        0..=9 => n + b'0',
-        10..=15 => n + 87,
-        _ => b'?',
+    if n < 10 {
+        return n % 10 + b'0';
     }
+    n % 16 + 87
 }
 
 // The bytes in hexadecimal.

@@ -1,5 +1,6 @@
 // The words and the numbers of a line.
 // A mark is a byte between two parts: a space, a colon, a bracket.
+use crate::output::part;
 use bytes::scan::find;
 
 // A number that was read.
@@ -10,18 +11,13 @@ pub enum Number {
 
 // The text in front of the first mark: all of it where there is none.
 pub fn before<'a>(text: &'a [u8], mark: u8) -> &'a [u8] {
-    let end = find(text, 0, text.len(), mark);
-    &text[0..end]
+    part(text, 0, find(text, 0, text.len(), mark))
 }
 
 // The text behind the first mark: nothing where there is none.
 pub fn after<'a>(text: &'a [u8], mark: u8) -> &'a [u8] {
     let at = find(text, 0, text.len(), mark);
-    if at < text.len() {
-        let start = at + 1;
-        return &text[start..];
-    }
-    &text[at..]
+    part(text, at + 1, text.len())
 }
 
 // The number that the value becomes with one more decimal digit.

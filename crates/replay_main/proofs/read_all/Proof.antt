@@ -7,10 +7,10 @@ use Rattle.replay_main.proofs.read_all.Statement.{statement}
 use Rattle.replay_main.proofs.read_all.Tie as tie
 
 abbrev Inv-loop : tie.InvT-loop
-Inv-loop line₀ space₀ place₀ turns₀ line space place turns = (length line ≡ length line₀) × (length space ≡ length space₀)
+Inv-loop piece₀ line₀ space₀ place₀ turns₀ piece line space place turns = (length piece ≡ length piece₀) × (length line ≡ length line₀) × (length space ≡ length space₀)
 
 abbrev μ-loop : tie.MeasureT-loop
-μ-loop line₀ space₀ place₀ turns₀ line space place turns = turns
+μ-loop piece₀ line₀ space₀ place₀ turns₀ piece line space place turns = turns
 
 pub read-all-spec : {M : Type 1} → statement M
-read-all-spec = tie.close (tie.spec Inv-loop μ-loop (search needs) (search needs) (search needs) (search needs) (search needs) (search needs) (search needs) (search needs) (search needs) (search needs) (search needs) (search needs) (search needs))
+read-all-spec = tie.close (tie.spec Inv-loop μ-loop (search needs) (search needs) (search needs) (search needs) (search needs) (search needs) (search needs) (search needs) (search needs) (search needs) (search needs) (search needs) (search needs) (search needs))

@@ -16,7 +16,7 @@ use Rattle.blake2bp.proofs.state.State.finalize.Reads as state-finalize
 use Rattle.blake2bp.proofs.state.State.count.Reads as state-count
 use Rattle.blake2bp.proofs.state.State.leaf_count.Reads as state-leaf-count
 use Rattle.blake2bp.proofs.state.State.buffered.Reads as state-buffered
-use Rattle.blake2bp.proofs.state.blake2bp.Reads as blake2bp
+use Rattle.blake2bp.proofs.one_shot.blake2bp.Reads as blake2bp
 
 pub params-new-unique : (κs : _) (args : _) (r q : _) (exit : _) → params-new.Post κs args r exit → params-new.Post κs args q exit → r ≡ q
 params-new-unique κs args r q exit e f = unique e f

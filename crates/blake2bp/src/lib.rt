@@ -1,10 +1,13 @@
 // Module 5: BLAKE2bp, four leaves and a root over them, one-shot or piece by piece. A digest is `hash`'s `Hash`.
 // Public: every call is total, and its promise settles its whole answer.
+mod counts;
+mod one_shot;
 mod params;
 mod state;
 
+pub use counts::MessageCount;
 pub use leaves::LeafCount;
-pub use leaves::MessageCount;
+pub use one_shot::blake2bp;
 pub use params::Params;
 pub use params::ParamsAnswer;
 pub use state::BufferedAnswer;
@@ -12,4 +15,3 @@ pub use state::CountAnswer;
 pub use state::LeafCountAnswer;
 pub use state::State;
 pub use state::StateAnswer;
-pub use state::blake2bp;

@@ -1,14 +1,13 @@
-// The state of a hash that takes its message piece by piece, and the hash of a whole message.
+// The state of a hash that takes its message piece by piece, and how parameters make it begin.
 // The buffer holds two rows of blocks: a row goes only once each leaf is known to get more.
+use crate::counts::MessageCount;
 use crate::params::Params;
 use guts::offset_slice;
 use guts::store;
-use hash::Hash;
 use hash::HashAnswer;
 use leaves::DEGREE;
 use leaves::Leaf;
 use leaves::LeafCount;
-use leaves::MessageCount;
 use leaves::compress_to_leaves;
 use leaves::finalize_root_words;
 use leaves::finish_leaves;
@@ -28,9 +27,8 @@ ghost use Rattle.definitions.specs.Words.{pad};
 ghost use Rattle.laws_words.specs.Bytes.{zeros};
 ghost use Rattle.laws_blocks.specs.Chain.{spare};
 ghost use Rattle.laws_states.specs.Leaves.{rowOf};
-ghost use Rattle.hash.specs.Hash.{hashOf};
 ghost use Rattle.blake2bp.specs.Params.{defaults};
-ghost use Rattle.blake2bp.specs.State.{pending, moved, rangeOf, stateInRange, zeroState, fresh, opened, updated, finalized, counted, leafCounted, bufferedIn, digest, hashed};
+ghost use Rattle.blake2bp.specs.State.{pending, moved, rangeOf, stateInRange, zeroState, fresh, opened, updated, finalized, counted, leafCounted, bufferedIn};
 
 pub struct State {
     pub(crate) leaves: [Leaf; DEGREE],
@@ -417,35 +415,4 @@ impl Params {
             state,
         }
     }
-
-    // The digest of a whole message. Without a key it goes straight to the leaves.
-    pub fn hash(self, input: &[u8]) -> HashAnswer
-        ensures { λ r. ⌜ r ≡ hashed self (now (input .entry)) ⌝ }
-    {
-        if !self.in_range() {
-            return HashAnswer::refused(RECORD);
-        }
-        if self.key_length > 0 {
-            let taken = self.with_params().update(input);
-            if taken.number != ACCEPTED {
-                return HashAnswer::refused(TOTAL);
-            }
-            let state = taken.state;
-            return state.finalize();
-        }
-        let start = leaf_words(self.hash_length, self.key_length);
-        let root = root_words(self.hash_length, self.key_length);
-        let none = LeafCount(0);
-        let leaves = finish_leaves(start, input, none);
-        finalize_root_words(leaves, root, self.hash_length)
-    }
-}
-
-// The digest of a message with the default parameters.
-pub fn blake2bp(input: &[u8]) -> Hash
-    ensures { λ r. ⌜ r ≡ hashOf (digest defaults (now (input .entry))) ⌝ }
-{
-    let params = Params::new();
-    let done = params.hash(input);
-    done.hash
 }

@@ -1,8 +1,5 @@
-// Two kinds of number of bytes: per leaf, and of the whole message.
-// They are two types, so that one can't be used for the other.
+// What each leaf has compressed: a kind of number of its own, so that it can't be used as a message count.
+// BLAKE2bp's message count is the other kind.
 
-// What each leaf has compressed, key block bytes with it.
+// Key block bytes are counted with it.
 pub struct LeafCount(pub u64);
-
-// The message bytes that came.
-pub struct MessageCount(pub u64);

@@ -5,7 +5,6 @@ mod leaves;
 mod starts;
 
 pub use counts::LeafCount;
-pub use counts::MessageCount;
 pub use leaves::BLOCKBYTES;
 pub use leaves::DEGREE;
 pub use leaves::Leaf;

@@ -1,4 +1,4 @@
--- `blake2bp::state::blake2bp` meets its contract.
+-- `blake2bp::one_shot::blake2bp` meets its contract.
 -- Assumes nothing.
 use mathlib.Core.Path.{ap, _∙_}
 use Prim.Native.Nat.{_≤_}
@@ -10,8 +10,8 @@ use Rattle.blake2bp.specs.State.{hashed}
 use Rattle.blake2bp.specs.declared.params.Params.{Params}
 use Rattle.blake2bp.proofs.OneShot.{hashed-defaults}
 use borrow.Author.Needs.{needs}
-use Rattle.blake2bp.proofs.state.blake2bp.Statement.{statement}
-use Rattle.blake2bp.proofs.state.blake2bp.Tie as tie
+use Rattle.blake2bp.proofs.one_shot.blake2bp.Statement.{statement}
+use Rattle.blake2bp.proofs.one_shot.blake2bp.Tie as tie
 
 few : (c : tie.Start) → length (c .args .input .now) ≤ limit
 unfolding limit

@@ -17,7 +17,7 @@ use Rattle.laws_words.proofs.Stores.{pad-none}
 use Rattle.laws_states.proofs.Trees.{row-some, row-none}
 use Rattle.members.specs.Keeper.{keyRow}
 use Rattle.members.proofs.Laws.{Begun}
-use Rattle.members.proofs.Closings.{length-key-row, tree-closed, tree-digest}
+use Rattle.members.proofs.Closings.{length-key-row, tree-digest}
 use Rattle.leaves.specs.Leaves.{leafOf, wordsOf, onLeaf}
 use Rattle.leaves.specs.declared.leaves.Leaf.{Leaf}
 use Rattle.leaves.proofs.Turns.{words-on-leaf}
@@ -45,7 +45,7 @@ module _ (p : Params) (whole : length (p .key) ≡ 64) (short : p .«key_length�
   front-plain h = row-none BLAKE2b (omega arith) 4 (omega arith) (keyOf p) [] (length-key ∙ omega arith)
 
   pub length-front : length (front p) ≡ keyBytes p
-  length-front = length-key-row BLAKE2b (omega arith) 4 (omega arith) (keyOf p) key-fits ∙ ap (λ (j : ℕ). keyRow bounds (leb 1 j)) length-key
+  length-front = length-key-row BLAKE2b (omega arith) 4 (omega arith) (keyOf p) (p .«key_length») length-key key-fits
 
   -- the state of no message bytes, as the code makes it
   module _ {ls : List Leaf} {w : List ℕ} (leaves : ls ≡ map leafOf (leafStarts BLAKE2b 4 (p .«hash_length») (p .«key_length»))) (root : w ≡ rootStart BLAKE2b 4 (p .«hash_length») (p .«key_length»)) where
@@ -68,13 +68,11 @@ begun p good =
     let d = p .«hash_length» in
     let short = key-short p (good .ranged) in
     let k = length-key p (good .whole) short in
-    let starts : map wordsOf (fresh p .leaves) ≡ leafStarts BLAKE2b 4 d (length (keyOf p)) = leaf-words (leafStarts BLAKE2b 4 d (p .«key_length»)) ∙ ap (leafStarts BLAKE2b 4 d) (sym k) in
+    let starts = leaf-words (leafStarts BLAKE2b 4 d (p .«key_length»)) in
     record {
       good = good .ranged;
       asked = digest-asked p (good .ranged);
       front-is = length-front p (good .whole) short;
       ahead-is = refl;
-      digest-is = λ m.
-          ap (λ (j : ℕ). tree-closed BLAKE2b (omega arith) 4 (omega arith) wordsOf onLeaf words-on-leaf d (rootStart BLAKE2b 4 d j) (fresh p .leaves) 0 (front p ++ m)) (sym k)
-          ∙ tree-digest BLAKE2b (omega arith) 4 (omega arith) wordsOf onLeaf words-on-leaf d (keyOf p) (key-fits p (good .whole) short) (fresh p .leaves) starts m;
+      digest-is = tree-digest BLAKE2b (omega arith) 4 (omega arith) wordsOf onLeaf words-on-leaf d (keyOf p) (p .«key_length») k (key-fits p (good .whole) short) (fresh p .leaves) starts;
     }

@@ -15,6 +15,7 @@ use Rattle.laws_blocks.proofs.Calls.{untruncated-through}
 use Rattle.laws_blocks.proofs.Fronts.{through-behind}
 use Rattle.numbers.specs.Numbers.{accepted, job-unfinished, bad-record, limit}
 use Rattle.hash.specs.Hash.{hashOf, noHash}
+use Rattle.blake2b_state.specs.State.{keyFront}
 use Rattle.blake2b.specs.Params.{inRange, asked, front}
 use Rattle.blake2b.specs.Member.{digest, hashed}
 use Rattle.blake2b.specs.declared.params.Params.{Params}

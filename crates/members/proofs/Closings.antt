@@ -39,12 +39,15 @@ module _ (f : Family) (some : 0 < f .bb) where
 
   -- n leaves: W is what holds a leaf's words, and F the compression on it
   module _ (n : ℕ) (leaves : 0 < n) where
-    pub length-key-row : (key : List ℕ) → length key ≤ bb → length (keyedRow f n key []) ≡ cond (leb 1 (length key)) (n * bb) 0
-    length-key-row key short = split (leb 1 (length key)) refl
+    -- a key of k bytes
+    pub length-key-row : (key : List ℕ) (k : ℕ) → length key ≡ k → length key ≤ bb → length (keyedRow f n key []) ≡ cond (leb 1 k) (n * bb) 0
+    length-key-row key k e short = split (leb 1 k) refl
       where
-        split : (b : Bool) → leb 1 (length key) ≡ b → length (keyedRow f n key []) ≡ cond b (n * bb) 0
-        split true e = ap length (row-some f some n leaves key (leb-true 1 (length key) e)) ∙ length-row bb n some leaves (pad bb key) (length-pad bb key short) n
-        split false e = let z = leb-false 1 (length key) e in ap length (row-none f some n leaves key [] (omega arith))
+        split : (b : Bool) → leb 1 k ≡ b → length (keyedRow f n key []) ≡ cond b (n * bb) 0
+        split true h =
+            let some-key = leb-true 1 k h in
+            ap length (row-some f some n leaves key (omega arith)) ∙ length-row bb n some leaves (pad bb key) (length-pad bb key short) n
+        split false h = let z = leb-false 1 k h in ap length (row-none f some n leaves key [] (omega arith))
 
     module _ {W : Type 0} (words : W → List ℕ) (F : W → List ℕ → ℕ → Bool → Bool → W)
         (same : (w : W) (b : List ℕ) (t : ℕ) (last node : Bool) → words (F w b t last node) ≡ onBytes f (words w) b t last node) where
@@ -54,9 +57,11 @@ module _ (f : Family) (some : 0 < f .bb) where
       pub tree-late : (d : ℕ) (root : List ℕ) → Late (parallel bb F n) (tree-closed d root)
       tree-late d root = record { late = λ l t x k h. ap (λ (ws : List W). take d (rooted f root (map words ws))) (parallel-late bb F some n leaves .late l t x k h) }
 
-      pub tree-digest : (d : ℕ) (key : List ℕ) → length key ≤ bb → (ws : List W) → map words ws ≡ leafStarts f n d (length key) → (m : List ℕ)
-          → tree-closed d (rootStart f n d (length key)) ws 0 (keyedRow f n key [] ++ m) ≡ tree.parallel f n d key m
-      tree-digest d key short ws starts m =
-          ap (λ (ls : List (List ℕ)). take d (rooted f (rootStart f n d (length key)) ls))
-          (finished-image words bb F (onBytes f) same n ws 0 (keyedRow f n key [] ++ m) ∙ (λ i. finished bb (onBytes f) n (starts i) 0 (row-front f some n leaves key m i)))
+      pub tree-digest : (d : ℕ) (key : List ℕ) (k : ℕ) → length key ≡ k → length key ≤ bb → (ws : List W) → map words ws ≡ leafStarts f n d k → (m : List ℕ)
+          → tree-closed d (rootStart f n d k) ws 0 (keyedRow f n key [] ++ m) ≡ tree.parallel f n d key m
+      tree-digest d key k e short ws starts m =
+          let leaf-words = starts ∙ ap (leafStarts f n d) (sym e) in
+          (λ i. take d (rooted f (rootStart f n d (sym e i)) (map words (finished bb F n ws 0 (keyedRow f n key [] ++ m)))))
+          ∙ ap (λ (ls : List (List ℕ)). take d (rooted f (rootStart f n d (length key)) ls))
+          (finished-image words bb F (onBytes f) same n ws 0 (keyedRow f n key [] ++ m) ∙ (λ i. finished bb (onBytes f) n (leaf-words i) 0 (row-front f some n leaves key m i)))
           ∙ rooted-is-tree f some n leaves d key m short

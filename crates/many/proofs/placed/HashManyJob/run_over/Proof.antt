@@ -17,7 +17,7 @@ add-sub a b = omega arith
 
 -- a finished job is handed back
 returns : tie.Need-returns
-returns c = over-finished (c .before .before .before .args .«data» .now) (c .before .before .before .args .self) (c .if1 .taken)
+returns c = let a = c .before .before .before .args in over-finished (a .«data» .now) (a .self) (c .if1 .taken)
 
 abbrev begun : tie.Else1 → tie.Start
 begun c = c .before .before .before

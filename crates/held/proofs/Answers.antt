@@ -13,6 +13,7 @@ use Rattle.definitions.specs.Family.{BLAKE2b}
 use Rattle.definitions.specs.Hash.{hash}
 use Rattle.numbers.specs.Numbers.{accepted, total-over, job-unfinished, bad-record, limit}
 use Rattle.hash.specs.Hash.{hashOf, noHash}
+use Rattle.blake2b_state.specs.Sizes.{blockbytes}
 use Rattle.blake2b.specs.Params.{inRange, asked, keyOf, Clean}
 use Rattle.blake2b.specs.Member.{hashed}
 use Rattle.blake2b.specs.declared.params.Params.{Params}
@@ -54,7 +55,7 @@ pub input-kept : (p : Params) (x : RefT (List ℕ)) (j : HashManyJob) → (madeJ
 input-kept p x j = (refl, refl)
 
 -- making, with a key block of its full size, as every record of parameters has it
-module _ (p : Params) (whole : length (p .«key_block») ≡ 128) (m : List ℕ) where
+module _ (p : Params) (whole : length (p .«key_block») ≡ blockbytes) (m : List ℕ) where
   abbrev fresh : WorkAnswer
   fresh = record { number = accepted; work = begun p (length m) }
 
@@ -78,7 +79,9 @@ module _ (p : Params) (whole : length (p .«key_block») ≡ 128) (m : List ℕ)
   pub through : unlessRefused (madeWork p m .number) (workHash (ranWork (madeWork p m .work) m .work) (length m)) ≡ hashed p m
   through =
       by-made (λ a. unlessRefused (a .number) (workHash (ranWork (a .work) m .work) (length m)) ≡ hashed p m)
-      (λ e f. sym (not-refused accepted _ refl) ∙ ap (λ (a : WorkAnswer). workHash (a .work) (length m)) (ran-within (begun p (length m)) m (begun-range p e (length m) f)) ∙ run-one-shot p e whole m f)
+      (λ e f.
+      let run = ran-within (begun p (length m)) m (begun-range p e (length m) f) in
+      sym (not-refused accepted _ refl) ∙ ap (λ (a : WorkAnswer). workHash (a .work) (length m)) run ∙ run-one-shot p e whole m f)
       (λ r bad g. sym (refused-before r _ bad refl) ∙ sym g)
 
   -- what the making of a job means that was accepted
@@ -90,7 +93,7 @@ module _ (p : Params) (whole : length (p .«key_block») ≡ 128) (m : List ℕ)
   made : madeWork p m .number ≡ accepted → Made (madeWork p m)
   made = by-made (λ a. a .number ≡ accepted → Made a) (λ e f h. record { good = e; within = f; is = refl }) (λ r bad g h. absurd (bad h))
 
-module _ (p : Params) (whole : length (p .«key_block») ≡ 128) (x : RefT (List ℕ)) where
+module _ (p : Params) (whole : length (p .«key_block») ≡ blockbytes) (x : RefT (List ℕ)) where
   pub refused-made : (madeJob p x .number ≡ accepted → ⊥) → (ranJob (madeJob p x .job) .number ≡ bad-record) × (jobHash (madeJob p x .job) ≡ noHash bad-record)
   refused-made = refused-work p whole (now x)
 

@@ -27,6 +27,7 @@ use denote.Struct.Laws as LL
 use denote.Struct.Rest.{all-own, rest, own-open, own-out, own-shut}
 use denote.Struct.Struct.{Plains}
 use denote.Struct.Values.{Values}
+use Rattle.blake2b_state.specs.Sizes.{blockbytes}
 use Rattle.blake2b.specs.declared.params.Params.{Params}
 use Rattle.blake2b.proofs.params.Params as P
 use Rattle.blake2b.proofs.params.Params.Laws as P′
@@ -138,11 +139,13 @@ module _ {M : Type 1} (𝓤 : URA M) (H : Heap 𝓤) (A : Atoms 𝓤) (W : Given
   -- an answer gives its job up
   pub job-out : (a : JobAnswer) (u : Val) → ent 𝓤 (sem 𝓤 H A (J.the-row α .own a (u ∷ []))) (sem 𝓤 H A (JobOwn (a .job)))
   job-out a u =
+      let T = J.the-type α in
+      let l = J′.the-laws α in
+      let parts : Values (T .parts) = (a .number, (a .job, tt)) in
       qed W (‵ (J.the-row α .own a (u ∷ [])) ∷ []) ∵
-      use1 W (given (u ∷ [] ≡ answerVal α a ∷ []) (‵ (all-own (J.the-type α .parts) (J′.the-laws α) (a .number, (a .job, tt))))) (own-open 𝓤 H A W (J.the-type α) (J′.the-laws α) (a .number, (a .job, tt)) u) $ learn ! (λ _.
-      use1 W (‵ (JobOwn (a .job)) ⊛ ‵ (rest (J.the-type α .parts) (J′.the-laws α) 1 (a .number, (a .job, tt)))) (own-out 𝓤 H A W (J.the-type α .parts) (J′.the-laws α) 1 (a .number, (a .job, tt))) $ split ! $
-      move ! (1 ∷ []) $ drop ! $ done !)
+      use1 W (given (u ∷ [] ≡ answerVal α a ∷ []) (‵ (all-own (T .parts) l parts))) (own-open 𝓤 H A W T l parts u) $ learn ! (λ _.
+      use1 W (‵ (JobOwn (a .job)) ⊛ ‵ (rest (T .parts) l 1 parts)) (own-out 𝓤 H A W (T .parts) l 1 parts) $ split ! $ move ! (1 ∷ []) $ drop ! $ done !)
 
 -- a key block has its full size
-pub whole-block : (p : Params) → Is P.the-row p (LL.vals P.the-type P′.the-laws p) → length (p .«key_block») ≡ 128
-whole-block p is = length-unmapped ℕ (p .«key_block») 128 (LL.owed P.the-type P′.the-laws p _ is .1 .1 .0 .1 .0 .1)
+pub whole-block : (p : Params) → Is P.the-row p (LL.vals P.the-type P′.the-laws p) → length (p .«key_block») ≡ blockbytes
+whole-block p is = length-unmapped ℕ (p .«key_block») blockbytes (LL.owed P.the-type P′.the-laws p _ is .1 .1 .0 .1 .0 .1)

@@ -16,6 +16,7 @@ use Rattle.laws_blocks.proofs.Fronts.{through-behind}
 use Rattle.numbers.specs.Numbers.{accepted, job-unfinished, bad-record, limit}
 use Rattle.hash.specs.Hash.{hashOf, noHash}
 use Rattle.blake2b_state.specs.State.{keyFront}
+use Rattle.blake2b_state.specs.Sizes.{blockbytes}
 use Rattle.blake2b.specs.Params.{inRange, asked, front}
 use Rattle.blake2b.specs.Member.{digest, hashed}
 use Rattle.blake2b.specs.declared.params.Params.{Params}
@@ -45,7 +46,7 @@ module _ (m : List ℕ) (w : Work) where
 
   -- the words that its digest is cut from
   abbrev last-words : List ℕ
-  last-words = cond (w .finished) (w .words) (throughBlocks BLAKE2b 128 (w .words) (w .count) true (w .«last_node») m)
+  last-words = cond (w .finished) (w .words) (throughBlocks BLAKE2b blockbytes (w .words) (w .count) true (w .«last_node») m)
 
   run-hash : (n : ℕ) → workInRange w n ≡ true → workHash (runOn m w) n ≡ record { number = accepted; hash = hashOf (take (w .«hash_length») (stateBytes BLAKE2b last-words)) }
   run-hash n good =
@@ -62,14 +63,14 @@ unfolding workInRange workHash
 zero-out-of-range n = (refl, refl)
 
 -- the words after a run: with a key that went first, without one, and with one and no input
-words-after : (keyed : Bool) (w b : List ℕ) (node : Bool) (m : List ℕ) → length b ≡ 128
+words-after : (keyed : Bool) (w b : List ℕ) (node : Bool) (m : List ℕ) → length b ≡ blockbytes
     → let last : Bool = keyed && eqb (length m) 0 in
-    let v : List ℕ = cond keyed (throughBlocks BLAKE2b 128 w 0 last (last && node) b) w in
-    cond last v (throughBlocks BLAKE2b 128 v (cond keyed 128 0) true node m) ≡ throughBlocks BLAKE2b 128 w 0 true node (cond keyed b [] ++ m)
+    let v : List ℕ = cond keyed (throughBlocks BLAKE2b blockbytes w 0 last (last && node) b) w in
+    cond last v (throughBlocks BLAKE2b blockbytes v (cond keyed blockbytes 0) true node m) ≡ throughBlocks BLAKE2b blockbytes w 0 true node (cond keyed b [] ++ m)
 words-after false w b node m l = refl
-words-after true w b node [] l = ap (throughBlocks BLAKE2b 128 w 0 true node) (sym (append-nil b))
+words-after true w b node [] l = ap (throughBlocks BLAKE2b blockbytes w 0 true node) (sym (append-nil b))
 words-after true w b node (x ∷ m) l =
-    rw (ne-eqb (length (x ∷ m)) 0 (λ e. omega arith)) (through-behind 128 (onBytes BLAKE2b) (omega arith) w 0 b l true node (x ∷ m) (omega arith))
+    rw (ne-eqb (length (x ∷ m)) 0 (λ e. omega arith)) (through-behind blockbytes (onBytes BLAKE2b) (omega arith) w 0 b l true node (x ∷ m) (omega arith))
 
 module _ (p : Params) (good : inRange p ≡ true) where
   pub begun-range : (n : ℕ) → keyBytes p + n ≤ limit → workInRange (begun p n) n ≡ true
@@ -81,8 +82,8 @@ module _ (p : Params) (good : inRange p ≡ true) where
   unfolding workHash
   begun-unfinished n within some = rw (begun-range n within, some)
 
-  module _ (whole : length (p .«key_block») ≡ 128) (m : List ℕ) (within : keyBytes p + length m ≤ limit) where
-    begun-words : last-words m (begun p (length m)) ≡ throughBlocks BLAKE2b 128 (start BLAKE2b (asked p)) 0 true (p .«last_node») (front p ++ m)
+  module _ (whole : length (p .«key_block») ≡ blockbytes) (m : List ℕ) (within : keyBytes p + length m ≤ limit) where
+    begun-words : last-words m (begun p (length m)) ≡ throughBlocks BLAKE2b blockbytes (start BLAKE2b (asked p)) 0 true (p .«last_node») (front p ++ m)
     unfolding firstWords keyBytes keyFront
     begun-words = words-after (leb 1 (p .«key_length»)) (start BLAKE2b (asked p)) (p .«key_block») (p .«last_node») m whole
 

@@ -13,6 +13,7 @@ use Rattle.definitions.specs.Hash.{start, stateBytes}
 use Rattle.laws_blocks.specs.Blocks.{throughBlocks}
 use Rattle.numbers.specs.Numbers.{accepted, job-unfinished, bad-record, limit}
 use Rattle.hash.specs.Hash.{isDigestLength, hashOf, noHash, madeFrom}
+use Rattle.blake2b_state.specs.Sizes.{blockbytes, outbytes}
 use Rattle.blake2b.specs.Params.{asked}
 use Rattle.hash.specs.declared.HashAnswer.{HashAnswer}
 use Rattle.blake2b.specs.declared.params.Params.{Params}
@@ -34,13 +35,13 @@ module _ (w : Work) (n : ℕ) where
   range-no-digest h = rw (lt-leb 1 (w .«hash_length») h)
 
   module _ (some : 1 ≤ w .«hash_length») where
-    pub range-long-digest : 64 < w .«hash_length» → false ≡ workInRange w n
+    pub range-long-digest : outbytes < w .«hash_length» → false ≡ workInRange w n
     unfolding workInRange
-    range-long-digest h = rw (le-leb 1 (w .«hash_length») some, lt-leb (w .«hash_length») 64 h)
+    range-long-digest h = rw (le-leb 1 (w .«hash_length») some, lt-leb (w .«hash_length») outbytes h)
 
-    pub range-total : w .«hash_length» ≤ 64 → w .count ≤ limit → leb n (limit - w .count) ≡ workInRange w n
+    pub range-total : w .«hash_length» ≤ outbytes → w .count ≤ limit → leb n (limit - w .count) ≡ workInRange w n
     unfolding workInRange
-    range-total h g = rw (le-leb 1 (w .«hash_length») some, le-leb (w .«hash_length») 64 h) (room-left (w .count) n g)
+    range-total h g = rw (le-leb 1 (w .«hash_length») some, le-leb (w .«hash_length») outbytes h) (room-left (w .count) n g)
 
   -- what work in range keeps
   pub in-range : workInRange w n ≡ true → (isDigestLength (w .«hash_length») ≡ true) × (w .count + n ≤ limit)
@@ -53,7 +54,7 @@ key-bytes-short : (p : Params) → keyBytes p ≤ limit
 unfolding keyBytes limit
 key-bytes-short p = split (leb 1 (p .«key_length»))
   where
-    split : (b : Bool) → cond b 128 0 ≤ limit
+    split : (b : Bool) → cond b blockbytes 0 ≤ limit
     split true = omega arith
     split false = omega arith
 
@@ -66,9 +67,10 @@ module _ (p : Params) (last : Bool) {keyed : Bool} {v : List ℕ} (k : keyed ≡
   unfolding firstWords
   words-plain h = rw (sym k ∙ not-true keyed h) e
 
-  pub words-keyed : not keyed ≡ false → {w b : List ℕ} {node : Bool} → b ≡ p .«key_block» → node ≡ p .«last_node» → w ≡ throughBlocks BLAKE2b 128 v 0 last (last && node) b → w ≡ firstWords p last
+  pub words-keyed : not keyed ≡ false → {w b : List ℕ} {node : Bool} → b ≡ p .«key_block» → node ≡ p .«last_node»
+      → w ≡ throughBlocks BLAKE2b blockbytes v 0 last (last && node) b → w ≡ firstWords p last
   unfolding firstWords
-  words-keyed h f g r = rw (sym k ∙ not-false keyed h) (r ∙ (λ i. throughBlocks BLAKE2b 128 (e i) 0 last (last && g i) (f i)))
+  words-keyed h f g r = rw (sym k ∙ not-false keyed h) (r ∙ (λ i. throughBlocks BLAKE2b blockbytes (e i) 0 last (last && g i) (f i)))
 
 pub begun-made : (p : Params) (n : ℕ) {f node : Bool} {w : List ℕ} {t l : ℕ} → f ≡ finishedAtOnce p n → w ≡ firstWords p f → t ≡ keyBytes p → node ≡ p .«last_node» → l ≡ p .«hash_length»
     → record { words = w; count = t; «last_node» = node; «hash_length» = l; finished = f } ≡ begun p n

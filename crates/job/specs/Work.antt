@@ -1,7 +1,7 @@
 -- The work of a job: the record, its range, what it starts as, what a run on an input makes of it, and its digest.
 -- Assumes nothing.
 use mathlib.Core.Bool.{Bool, true, false, cond, _&&_}
-use mathlib.Core.List.{List}
+use mathlib.Core.List.{List, [], _∷_}
 use Prim.Native.Nat.{ℕ, _+_}
 use lib.Dec.{leb, eqb}
 use lib.ListN.{take}
@@ -10,7 +10,9 @@ use Rattle.definitions.specs.Hash.{start, stateBytes}
 use Rattle.laws_words.specs.Bytes.{zeros}
 use Rattle.laws_blocks.specs.Blocks.{throughBlocks}
 use Rattle.numbers.specs.Numbers.{accepted, job-unfinished, bad-record, limit}
+use Rattle.numbers.specs.Tests.{Test, test, tested}
 use Rattle.hash.specs.Hash.{isDigestLength, hashOf, noHash}
+use Rattle.blake2b_state.specs.Sizes.{blockbytes}
 use Rattle.blake2b.specs.Params.{asked}
 use Rattle.hash.specs.declared.HashAnswer.{HashAnswer}
 use Rattle.blake2b.specs.declared.params.Params.{Params}
@@ -26,7 +28,7 @@ workInRange w n = isDigestLength (w .«hash_length») && leb (w .count + n) limi
 
 -- the bytes of the key block: none without a key
 unfoldable pub keyBytes : Params → ℕ
-keyBytes p = cond (leb 1 (p .«key_length»)) 128 0
+keyBytes p = cond (leb 1 (p .«key_length»)) blockbytes 0
 
 -- a job with a key and no input is finished by its key block
 abbrev pub finishedAtOnce : Params → ℕ → Bool
@@ -36,7 +38,7 @@ finishedAtOnce p n = leb 1 (p .«key_length») && eqb n 0
 unfoldable pub firstWords : Params → Bool → List ℕ
 firstWords p last =
     cond (leb 1 (p .«key_length»))
-    (throughBlocks BLAKE2b 128 (start BLAKE2b (asked p)) 0 last (last && p .«last_node») (p .«key_block»))
+    (throughBlocks BLAKE2b blockbytes (start BLAKE2b (asked p)) 0 last (last && p .«last_node») (p .«key_block»))
     (start BLAKE2b (asked p))
 
 -- the work for an input of n bytes
@@ -52,7 +54,7 @@ begun p n = record {
 -- the work once it ran on an input: the last words, and finished; all else as it was
 abbrev pub ran : List ℕ → Work → Work
 ran m w = record {
-  words = throughBlocks BLAKE2b 128 (w .words) (w .count) true (w .«last_node») m;
+  words = throughBlocks BLAKE2b blockbytes (w .words) (w .count) true (w .«last_node») m;
   count = w .count;
   «last_node» = w .«last_node»;
   «hash_length» = w .«hash_length»;
@@ -64,8 +66,9 @@ unfoldable pub runOn : List ℕ → Work → Work
 runOn m w = cond (w .finished) w (ran m w)
 
 -- the digest of a job whose input has n bytes: 14, then 12
+abbrev pub digestTests : Work → ℕ → List Test
+digestTests w n = test (workInRange w n) bad-record ∷ test (w .finished) job-unfinished ∷ []
+
 unfoldable pub workHash : Work → ℕ → HashAnswer
 workHash w n =
-    cond (workInRange w n)
-    (cond (w .finished) (record { number = accepted; hash = hashOf (take (w .«hash_length») (stateBytes BLAKE2b (w .words))) }) (noHash job-unfinished))
-    (noHash bad-record)
+    tested (digestTests w n) (record { number = accepted; hash = hashOf (take (w .«hash_length») (stateBytes BLAKE2b (w .words))) }) noHash

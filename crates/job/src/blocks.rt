@@ -10,6 +10,7 @@ ghost use lib.ListN.{length};
 ghost use Rattle.definitions.specs.Family.{BLAKE2b};
 ghost use Rattle.laws_blocks.specs.Blocks.{throughBlocks};
 ghost use Rattle.guts.specs.Guts.{finalizes, isLastNode};
+ghost use Rattle.blake2b_state.specs.Sizes.{blockbytes};
 
 fn finalize_if(yes: bool) -> Finalize
     ensures { λ r. ⌜ finalizes r ≡ yes ⌝ }
@@ -32,7 +33,7 @@ pub(crate) fn compressed(
     last_node: bool,
 ) -> [u64; 8]
     requires { ⌜ count + length (now input) < 2 ^ 64 ⌝ }
-    ensures { λ r. ⌜ r ≡ throughBlocks BLAKE2b 128 words count last (last && «last_node») (now (input .entry)) ⌝ }
+    ensures { λ r. ⌜ r ≡ throughBlocks BLAKE2b blockbytes words count last (last && «last_node») (now (input .entry)) ⌝ }
 {
     let run = compress1_loop(
         input,

@@ -30,7 +30,8 @@ use Rattle.lent.proofs.Fronts.{front-serves}
 use Rattle.walks.proofs.Settled.{facts-agree}
 
 -- what the two functions promise, of the same records: an answer that meets the one promise is the answer that meets the other
-pub same-answer : {M : Type 1} (𝓤 : URA M) (H : Heap 𝓤) (A : Atoms 𝓤) (mem : Memory → SProp 𝓤) (run : Routine → Fun 𝓤) (κs : _) (κs′ : _) (b : Bank) (ps : List Piece) (used : ℕ) (x : RefT (List Piece)) (z z′ : RefT (List ℕ)) (r q : BatchAnswer) (exit : _) (exit′ : _)
+pub same-answer : {M : Type 1} (𝓤 : URA M) (H : Heap 𝓤) (A : Atoms 𝓤) (mem : Memory → SProp 𝓤) (run : Routine → Fun 𝓤) (κs : _) (κs′ : _)
+    (b : Bank) (ps : List Piece) (used : ℕ) (x : RefT (List Piece)) (z z′ : RefT (List ℕ)) (r q : BatchAnswer) (exit : _) (exit′ : _)
     → Front ps used (x .now) → z .now ≡ z′ .now
     → ent 𝓤 (sep 𝓤 (array-form.clauses 𝓤 H A mem run κs (b, (ps, (used, (z, tt)))) .ensures tt r exit) (lent-form.clauses 𝓤 H A mem run κs′ (b, (x, (z′, tt))) .ensures tt q exit′)) (fact 𝓤 (r ≡ q))
 same-answer 𝓤 H A mem run κs κs′ b ps used x z z′ r q exit exit′ f e =

@@ -32,6 +32,7 @@ front-twice (suc k) [] = refl
 front-twice (suc k) (x ∷ xs) = ap (λ (ys : List _). x ∷ ys) (front-twice k xs)
 
 -- the first records as a list of their own
-pub front-serves : {X : Type 0} (kind : Kind X) (n most : ℕ) (xs : List X) (d : List ℕ) (ps qs : List Piece) (used : ℕ) → Front ps used qs → step kind n most xs (lent qs d) ≡ step kind n most xs (update-many ps used d)
+pub front-serves : {X : Type 0} (kind : Kind X) (n most : ℕ) (xs : List X) (d : List ℕ) (ps qs : List Piece) (used : ℕ) → Front ps used qs
+    → step kind n most xs (lent qs d) ≡ step kind n most xs (update-many ps used d)
 front-serves kind n most xs d ps qs used f =
     ap (λ (m : ℕ). step kind n most xs (update-many qs m d)) (f .1) ∙ same-records kind n most xs d qs ps used (λ _. ap (take used) (sym (f .0)) ∙ front-twice used ps)

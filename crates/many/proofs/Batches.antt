@@ -13,10 +13,10 @@ use lib.ListN.{length, getD, take, set, length-take}
 use lib.Seq.{slice, slice-cons, slice-empty, getD-take}
 use Rattle.numbers.specs.Numbers.{accepted, batch-long}
 use Rattle.many.specs.Job.{runOver, jobRefusal}
-use Rattle.many.specs.Batch.{firstBad, settled, jobsRun}
+use Rattle.many.specs.Batch.{mapped, firstBad, settled, jobsRun}
 use Rattle.many.specs.declared.placed.HashManyJob.{HashManyJob}
 use Rattle.many.specs.declared.batch.FirstBad.{FirstBad}
-use Rattle.many.proofs.Mapped.{mapped, behind, one-more}
+use Rattle.many.proofs.Mapped.{one-more}
 
 module _ (n : ℕ) where
   pub first-here : (i : ℕ) (j : HashManyJob) (js : List HashManyJob) {r : ℕ} → r ≡ jobRefusal n j → (r ≡ accepted → ⊥) → firstBad n i (j ∷ js) ≡ record { number = r; index = i }
@@ -68,16 +68,10 @@ pub used-accepted : (n : ℕ) (jobs : List HashManyJob) (used : ℕ) → firstBa
 used-accepted n jobs used e i z h g =
     ap (jobRefusal n) (sym (getD-take used jobs i z h)) ∙ each-accepted n 0 (take used jobs) e i z (simp length-take (omega arith))
 
--- a turn of the loop that runs them: the job that is next is as it was, and is put back at its place
-module _ (d : List ℕ) (jobs : List HashManyJob) (used i : ℕ) (z : HashManyJob) (low : i < used) (long : used ≤ length jobs) {after : List HashManyJob} (inv : after ≡ mapped (runOver d) i jobs) where
-  next-job : getD after i z ≡ getD jobs i z
-  next-job = rw inv (behind (runOver d) i jobs i z (omega arith))
-
-  pub next-accepted : {bad : FirstBad} → bad ≡ firstBad (length d) 0 (take used jobs) → bad .number ≡ accepted → jobRefusal (length d) (getD after i z) ≡ accepted
-  next-accepted e h = rw next-job (used-accepted (length d) jobs used (ap (λ (b : FirstBad). b .number) (sym e) ∙ h) i z low (omega arith))
-
-  pub next-run : {r : HashManyJob} → r ≡ runOver d (getD after i z) → set after i r ≡ mapped (runOver d) (i + 1) jobs
-  next-run e = rw (e, next-job, inv, add-one) (one-more (runOver d) i jobs z (omega arith))
+-- a turn of the loop that runs them: the next job is put back at its place
+pub next-run : (d : List ℕ) (jobs : List HashManyJob) (i : ℕ) (z : HashManyJob) → i < length jobs → {out : List HashManyJob} {r : HashManyJob}
+    → out ≡ mapped (runOver d) i jobs → r ≡ runOver d (getD jobs i z) → set out i r ≡ mapped (runOver d) (i + 1) jobs
+next-run d jobs i z there inv e = rw (e, inv, add-one) (one-more (runOver d) i jobs z there)
 
 module _ (most : ℕ) (jobs : List HashManyJob) (used : ℕ) (d : List ℕ) where
   pub batch-refused : most < used → record { number = batch-long; index = 0; jobs = jobs } ≡ jobsRun most jobs used d

@@ -1,13 +1,11 @@
--- A list whose first k elements were changed by a function, each at its place.
+-- The laws of a list whose first k elements were changed by a function, each at its place.
 -- Assumes nothing.
 use mathlib.Core.Path.{_≡_, refl, ap}
-use mathlib.Core.List.{List, [], _∷_, _++_, map}
+use mathlib.Core.List.{List, [], _∷_}
 use Prim.Native.Nat.{ℕ, zero, suc, _<_, _≤_}
 use native.Mathlib.Nat.{not-suc-le-zero, le-of-suc-le-suc}
-use lib.ListN.{length, getD, take, drop, set}
-
-abbrev pub mapped : {A : Type 0} → (A → A) → ℕ → List A → List A
-mapped f k l = map f (take k l) ++ drop k l
+use lib.ListN.{length, getD, set}
+use Rattle.many.specs.Batch.{mapped}
 
 module _ {A : Type 0} (f : A → A) where
   pub length-mapped : (k : ℕ) (l : List A) → length (mapped f k l) ≡ length l

@@ -12,11 +12,11 @@ use lib.Seq.{getD-take}
 use Rattle.numbers.specs.Numbers.{accepted, batch-long}
 use Rattle.job.proofs.Runs.{run-finishes, run-keeps-range}
 use Rattle.many.specs.Job.{inputOf, runOver, jobRefusal}
-use Rattle.many.specs.Batch.{firstBad, jobsRun}
+use Rattle.many.specs.Batch.{mapped, firstBad, jobsRun}
 use Rattle.many.specs.declared.placed.HashManyJob.{HashManyJob}
 use Rattle.many.specs.declared.batch.FirstBad.{FirstBad}
 use Rattle.many.specs.declared.batch.JobsAnswer.{JobsAnswer}
-use Rattle.many.proofs.Mapped.{mapped, at-place, behind, unmoved, length-mapped, mapped-again}
+use Rattle.many.proofs.Mapped.{at-place, behind, unmoved, length-mapped, mapped-again}
 use Rattle.many.proofs.Jobs.{accepted-range, finished-accepted, over-finished}
 use Rattle.many.proofs.Batches.{used-accepted, none-bad, batch-refused, batch-bad, batch-run}
 
@@ -102,6 +102,6 @@ module _ (most : ℕ) (jobs : List HashManyJob) (used : ℕ) (d : List ℕ) (ok 
   pub twice : jobsRun most (jobsRun most jobs used d .jobs) used e ≡ record { number = accepted; index = 0; jobs = jobsRun most jobs used d .jobs }
   twice =
       let r = accepted-means most jobs used d ok in
+      let same = mapped-again (runOver d) (runOver e) (λ j. sym (over-finished e (runOver d j) (over-finishes d j))) used jobs in
       rw (r .is)
-      (accepted-when most (mapped (runOver d) used jobs) used e (r .few) still-good
-      ∙ ap (λ (js : List HashManyJob). record { number = accepted; index = 0; jobs = js }) (mapped-again (runOver d) (runOver e) (λ j. sym (over-finished e (runOver d j) (over-finishes d j))) used jobs))
+      (accepted-when most (mapped (runOver d) used jobs) used e (r .few) still-good ∙ ap (λ (js : List HashManyJob). record { number = accepted; index = 0; jobs = js }) same)

@@ -5,8 +5,10 @@ use numbers::ACCEPTED;
 use numbers::BATCH;
 ghost use mathlib.Core.Path.{_≡_};
 ghost use Prim.Native.Nat.{_≤_};
-ghost use lib.ListN.{take};
-ghost use Rattle.many.specs.Batch.{most-jobs, firstBad, jobsRun};
+ghost use lib.ListN.{length, take};
+ghost use Rattle.numbers.specs.Numbers.{accepted};
+ghost use Rattle.many.specs.Job.{runOver};
+ghost use Rattle.many.specs.Batch.{most-jobs, mapped, firstBad, jobsRun};
 
 // A batch has at most so many jobs.
 pub const MOST_JOBS: usize = 16;
@@ -43,6 +45,22 @@ fn first_bad(jobs: [HashManyJob; MOST_JOBS], used: usize, data_length: usize) ->
     }
 }
 
+// Every used job, run at its own place: the one place where an engine takes a batch's jobs.
+fn run_jobs(jobs: [HashManyJob; MOST_JOBS], used: usize, data: &[u8]) -> [HashManyJob; MOST_JOBS]
+    requires { ⌜ (used ≤ most-jobs) × (firstBad (length (now «data»)) 0 (take used jobs) .number ≡ accepted) ⌝ }
+    ensures { λ r. ⌜ r ≡ mapped (runOver (now («data» .entry))) used jobs ⌝ }
+{
+    let mut out = jobs;
+    let mut i: usize = 0;
+    while i < used {
+        let before = jobs[i];
+        let after = before.run_over(data);
+        out[i] = after;
+        i += 1;
+    }
+    out
+}
+
 // Running twice has no effect: a finished job is not run again.
 pub fn hash_many(jobs: [HashManyJob; MOST_JOBS], used: usize, data: &[u8]) -> JobsAnswer
     ensures { λ r. ⌜ r ≡ jobsRun most-jobs jobs used (now («data» .entry)) ⌝ }
@@ -62,14 +80,7 @@ pub fn hash_many(jobs: [HashManyJob; MOST_JOBS], used: usize, data: &[u8]) -> Jo
             jobs,
         };
     }
-    let mut after = jobs;
-    let mut i: usize = 0;
-    while i < used {
-        let job = after[i];
-        let next = job.run_over(data);
-        after[i] = next;
-        i += 1;
-    }
+    let after = run_jobs(jobs, used, data);
     JobsAnswer {
         number: ACCEPTED,
         index: 0,

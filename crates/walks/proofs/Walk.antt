@@ -60,8 +60,8 @@ module _ {M : Type 1} {𝓤 : URA M} {H : Heap 𝓤} {A : Atoms 𝓤} {K : Type 
   calling t 𝓣 known x φ said os k =
       let R : RattleType = typeAt (T .signature .result) (x .0 .0) in
       calls-at t (fmOf 𝓤 H (W .laws) 𝓣) (contractOf 𝓤 H A T c) known x os (λ u.
-      use1 W (later (some (λ (r : R .Denot). (raw (alive 𝓤 H A (T .signature) (x .0 .0) (x .0 .1)) ⊛ ‵ (R .own r (u ∷ []))) ⊛ raw (ensured 𝓤 H A T c (x .0 .0) (x .0 .3) (x .1) r)))) (id⊢ 𝓤 _) $ await t tt $ pick t (λ r.
-      split t $ move t (1 ∷ []) $
+      use1 W (later (some (λ (r : R .Denot). (raw (alive 𝓤 H A (T .signature) (x .0 .0) (x .0 .1)) ⊛ ‵ (R .own r (u ∷ []))) ⊛ raw (ensured 𝓤 H A T c (x .0 .0) (x .0 .3) (x .1) r))))
+      (id⊢ 𝓤 _) $ await t tt $ pick t (λ r. split t $ move t (1 ∷ []) $
       use1 W (raw (fact 𝓤 (φ r))) (exE 𝓤 _ (λ ws. via 𝓤 _ (snd∗ 𝓤 (sem 𝓤 H A (lasts T (x .0 .0) (x .0 .3) ws)) _) (said r ws))) $
       heard t (φ r) (λ e. split t $ move t (1 ∷ []) $ peeks t R (Is R) (shows 𝓤 H A R) r (u ∷ []) (λ is. k r u e is))))
 
@@ -84,7 +84,8 @@ module _ {M : Type 1} (𝓤 : URA M) (H : Heap 𝓤) (A : Atoms 𝓤) (W : Given
   nones-fit κs [] ks a ws = tt
   nones-fit κs (s ∷ ss) ks a ws = (tt, nones-fit κs ss (ks .1) (a .1) (ws .1))
 
-  nones-had : {n : ℕ} (κs : Lfts n) (ss : List (Slot n)) (ks : Kepts ss) (a : Denots (typesAt ss κs)) (ws : Fins κs ss ks a) (vss : Valss (typesAt ss κs)) → ent 𝓤 (emp 𝓤) (sem 𝓤 H A (hasOf κs ss ks (nones ss ks) a ws vss))
+  nones-had : {n : ℕ} (κs : Lfts n) (ss : List (Slot n)) (ks : Kepts ss) (a : Denots (typesAt ss κs)) (ws : Fins κs ss ks a) (vss : Valss (typesAt ss κs))
+      → ent 𝓤 (emp 𝓤) (sem 𝓤 H A (hasOf κs ss ks (nones ss ks) a ws vss))
   nones-had κs [] ks a ws vss = id⊢ 𝓤 (emp 𝓤)
   nones-had κs (s ∷ ss) ks a ws vss = via 𝓤 (sep 𝓤 (emp 𝓤) (emp 𝓤)) (emp∗ 𝓤 (emp 𝓤)) (mono∗ 𝓤 (id⊢ 𝓤 (emp 𝓤)) (nones-had κs ss (ks .1) (a .1) (ws .1) (vss .1)))
 
@@ -94,12 +95,14 @@ module _ {M : Type 1} (𝓤 : URA M) (H : Heap 𝓤) (A : Atoms 𝓤) (W : Given
     Ends = walkOf 𝓤 H A T (nones (T .signature .params) (T .kept)) c
 
     -- it ends there once the tokens are back and what the result owns is had, at a result that meets the clause
-    pub ends : (y : Ends .Ghost) (u : Val) (r : Res (T .signature) (y .0 .0)) (ws : Lasts T (y .0 .0) (y .0 .3)) → ent 𝓤 (emp 𝓤) (c (y .0 .0) (y .0 .3) .ensures (y .1) r (atExit T (y .0 .0) (y .0 .3) ws))
+    pub ends : (y : Ends .Ghost) (u : Val) (r : Res (T .signature) (y .0 .0)) (ws : Lasts T (y .0 .0) (y .0 .3))
+        → ent 𝓤 (emp 𝓤) (c (y .0 .0) (y .0 .3) .ensures (y .1) r (atExit T (y .0 .0) (y .0 .3) ws))
         → ent 𝓤 (⋆ 𝓤 H A (‵ (typeAt (T .signature .result) (y .0 .0) .own r (u ∷ [])) ∷ raw (alive 𝓤 H A (T .signature) (y .0 .0) (y .0 .1)) ∷ [])) (Ends .post y u)
     ends y u r ws said =
         qed W (‵ (typeAt (T .signature .result) (y .0 .0) .own r (u ∷ [])) ∷ raw (alive 𝓤 H A (T .signature) (y .0 .0) (y .0 .1)) ∷ []) ∵
         suffices ! _ (ends-at 𝓤 H A T (nones (T .signature .params) (T .kept)) c W y u r ws (nones-fit (y .0 .0) (T .signature .params) (T .kept) (y .0 .3) ws)) $
-        use0 W (‵ (hasOf (y .0 .0) (T .signature .params) (T .kept) (nones (T .signature .params) (T .kept)) (y .0 .3) ws (y .0 .4))) (nones-had (y .0 .0) (T .signature .params) (T .kept) (y .0 .3) ws (y .0 .4)) $
+        use0 W (‵ (hasOf (y .0 .0) (T .signature .params) (T .kept) (nones (T .signature .params) (T .kept)) (y .0 .3) ws (y .0 .4)))
+        (nones-had (y .0 .0) (T .signature .params) (T .kept) (y .0 .3) ws (y .0 .4)) $
         join ! $ move ! (1 ∷ 0 ∷ []) $ join ! $ use0 W (raw (c (y .0 .0) (y .0 .3) .ensures (y .1) r (atExit T (y .0 .0) (y .0 .3) ws))) said $ move ! (1 ∷ 0 ∷ []) $ done !
 
     -- so the function meets its contract where every walk ends there, at the machine values that the arguments spell
@@ -114,7 +117,8 @@ module _ {M : Type 1} (𝓤 : URA M) (H : Heap 𝓤) (A : Atoms 𝓤) (W : Given
 
     abbrev pub Walks : Spelt → Fn → Tables 𝓤 H → Type 1
     Walks sp fn 𝓣 =
-        (κs : Lfts (T .signature .lifetimes)) (qs : Shares (T .signature .lifetimes)) (bounds : AllOutlive (T .signature .lifetimes) (T .signature .outlives) κs) (a : Args (T .signature) κs) (g : c κs a .ghost)
+        (κs : Lfts (T .signature .lifetimes)) (qs : Shares (T .signature .lifetimes)) (bounds : AllOutlive (T .signature .lifetimes) (T .signature .outlives) κs)
+        (a : Args (T .signature) κs) (g : c κs a .ghost)
         → let vss : Valss (rows κs) = valss (rows κs) (sp κs) a in Are (rows κs) (Ises (rows κs)) a vss
         → ent 𝓤 (sep 𝓤 (onEntry 𝓤 H A (T .signature) κs qs a vss) (c κs a .requires g)) (WpFn 𝓤 H (𝓣 .C) (𝓣 .Λ) fn (flat (rows κs) vss) (Ends .post ((κs, qs, bounds, a, vss), g)))
 

@@ -1,5 +1,5 @@
--- `held::held_job::hash_through_job` meets its contract: a walk of its MIR, by hand. All that it knows of the three calls on a job is their contracts; that the answer is the one-shot call's is `through`.
--- Assumes nothing.
+-- `held::held_job::hash_through_job` meets its contract: a walk of its MIR, by hand. All that it knows of the three calls on a job is their
+-- contracts; that the answer is the one-shot call's is `through`. Assumes nothing.
 use mathlib.Core.Path.{_≡_, refl, ap, _∙_}
 use Prim.Native.Nat.{ℕ}
 use mathlib.Core.List.{List, [], _∷_}
@@ -16,8 +16,7 @@ use ghost.Atoms.{Atoms}
 use contract.Monad.{Fun, factI}
 use contract.Running.{givenOf, tables, tablesOf}
 use types.Kit.{Given, ‵, raw, ⋆, _$_, _∵_, !, qed, by, move, drop, use1, use2, join, rewrite, fjoin, frame, done}
-use types.Part.{whole, sub, look-in}
-use types.Run.{look, init, forget, stop, fld, from, load, of-opd, and-then, no-more, assigns, land, returns, enter, alloc1, alloc0, params1, pass1, pass0, free1, free0}
+use types.Run.{look, init, of-opd, and-then, no-more, returns, enter, alloc1, alloc0, params1, pass1, pass0, free0}
 use denote.Laws.{Is}
 use denote.Plain.{uint-makes}
 use denote.Builtin.{u8}
@@ -41,6 +40,7 @@ use Rattle.held.specs.HeldJob.{madeJob, ranJob, jobHash}
 use Rattle.held.specs.declared.held_job.HashManyJob.{HashManyJob}
 use Rattle.held.specs.declared.held_job.JobAnswer.{JobAnswer}
 use Rattle.held.proofs.Answers.{through}
+use Rattle.walks.proofs.Locals.{takes, takes-field, fills, fills-by-call, gone}
 use Rattle.walks.proofs.Walk.{contractOf, calling, Ends, ends, stands, spelled}
 use Rattle.held.proofs.Ownership.{jobVal, JobOwn, GivenOwns, Token, job-out, whole-block}
 use Rattle.held.proofs.held_job.HashManyJob as T
@@ -93,8 +93,14 @@ module _ {M : Type 1} (𝓤 : URA M) (H : Heap 𝓤) (A : Atoms 𝓤) (W : Given
   abbrev at : Vals hash′.signature (κ, tt)
   at = (LL.vals P.the-type P′.the-laws p, (slice-vals x, tt))
 
+  abbrev Had : SProp 𝓤
+  Had = onEntry 𝓤 H A hash′.signature (κ, tt) (q, tt) (p, (x, tt)) at
+
+  abbrev passed : Ends 𝓤 H A W hash′.ended (hash′.clauses 𝓤 H A mem run) .Ghost
+  passed = (((κ, tt), (q, tt), tt, (p, (x, tt)), at), tt)
+
   abbrev Post : Val → SProp 𝓤
-  Post = Ends 𝓤 H A W hash′.ended (hash′.clauses 𝓤 H A mem run) .post (((κ, tt), (q, tt), tt, (p, (x, tt)), at), tt)
+  Post = Ends 𝓤 H A W hash′.ended (hash′.clauses 𝓤 H A mem run) .post passed
 
   -- what each call is passed, and that it is had
   abbrev to-new : New 𝓤 H A mem run .Ghost
@@ -114,7 +120,8 @@ module _ {M : Type 1} (𝓤 : URA M) (H : Heap 𝓤) (A : Atoms 𝓤) (W : Given
 
   goes-unless : (n : ℕ) (h : HashAnswer) (u : Val) → Is u8 n (vint w8 n ∷ []) → ent 𝓤 (⋆ 𝓤 H A (‵ (G.the-row .own h (u ∷ [])) ∷ [])) (Unless 𝓤 H A mem run .pre (to-unless n h u))
   goes-unless n h u is =
-      qed W (‵ (G.the-row .own h (u ∷ [])) ∷ []) ∵ nothing ! $ move ! (1 ∷ 0 ∷ []) $ fjoin ! $ owned ! u8 (Is u8) (uint-makes 𝓤 H A W w8) n _ is $ fjoin ! $ nothing ! $ join ! $ frame ! $ done !
+      qed W (‵ (G.the-row .own h (u ∷ [])) ∷ []) ∵ nothing ! $ move ! (1 ∷ 0 ∷ []) $ fjoin ! $ owned ! u8 (Is u8) (uint-makes 𝓤 H A W w8) n _ is $ fjoin ! $ nothing ! $ join ! $ frame ! $
+      done !
 
   module _ (is-p : Is P.the-row p (LL.vals P.the-type P′.the-laws p)) (is-x : Is (ShrSlice (named 0) κ u8) x (slice-vals x)) where
     -- the four promises together
@@ -124,46 +131,49 @@ module _ {M : Type 1} (𝓤 : URA M) (H : Heap 𝓤) (A : Atoms 𝓤) (W : Given
 
     module _ (𝓣 : Tables 𝓤 H) (known-new : Triple 𝓤 (𝓣 .C #new) (New 𝓤 H A mem run)) (known-run : Triple 𝓤 (𝓣 .C #run) (Run 𝓤 H A mem run))
         (known-to-hash : Triple 𝓤 (𝓣 .C #to-hash) (ToHash 𝓤 H A mem run)) (known-unless : Triple 𝓤 (𝓣 .C #unless) (Unless 𝓤 H A mem run)) where
-      walk : ent 𝓤 (onEntry 𝓤 H A hash′.signature (κ, tt) (q, tt) (p, (x, tt)) at) (WpFn 𝓤 H (𝓣 .C) (𝓣 .Λ) code.function (LL.val P.the-type P′.the-laws p ∷ slice-vals x) Post)
+      walk : ent 𝓤 Had (WpFn 𝓤 H (𝓣 .C) (𝓣 .Λ) code.function (LL.val P.the-type P′.the-laws p ∷ slice-vals x) Post)
       walk =
-          qed W (raw (onEntry 𝓤 H A hash′.signature (κ, tt) (q, tt) (p, (x, tt)) at) ∷ []) ∵ enter ! (𝓣 .C) (𝓣 .Λ) code.function (LL.val P.the-type P′.the-laws p ∷ slice-vals x) _ $
+          qed W (raw Had ∷ []) ∵ enter ! (𝓣 .C) (𝓣 .Λ) code.function (LL.val P.the-type P′.the-laws p ∷ slice-vals x) _ $
           alloc1 ! (λ l₀. alloc1 ! (λ l₁. alloc1 ! (λ l₂. alloc1 ! (λ l₃. alloc1 ! (λ l₄. alloc1 ! (λ l₅. alloc1 ! (λ l₆. alloc1 ! (λ l₇. alloc1 ! (λ l₈. alloc0 ! $ params1 ! $
-          pass1 ! (init ! 14 refl (LL.lawful P.the-type P′.the-laws 𝓤 H A W .typed p _ is-p .0)) $ pass1 ! (init ! 12 refl (shr-slice-lawful 𝓤 H A W (named 0) κ u8 .typed x _ is-x .0)) $ pass0 ! $
+          pass1 ! (init ! 14 refl (LL.lawful P.the-type P′.the-laws 𝓤 H A W .typed p _ is-p .0)) $ pass1 ! (init ! 12 refl (shr-slice-lawful 𝓤 H A W (named 0) κ u8 .typed x _ is-x .0)) $
+          pass0 ! $
           -- [_8; …; _7; …; _6; …; _5; …; _4; …; _3; …; _2; …; _1; …; _0; …; what is had]
           move ! (18 ∷ []) $ use1 W (raw (New 𝓤 H A mem run .pre to-new)) goes-new $
           calling new.ended (new.clauses 𝓤 H A mem run) ! 𝓣 known-new to-new (λ a. a ≡ madeJob p x) (λ a ws. id⊢ 𝓤 _)
-          (and-then ! (load ! (from ! (stop !)) (look ! 15 refl)) (and-then ! (load ! (from ! (stop !)) (look ! 13 refl)) (no-more !))) (λ a u e is.
+          (and-then ! (takes ! 15 refl) (and-then ! (takes ! 13 refl) (no-more !))) (λ a u e is.
           -- [the result; the token; _8; …]
-          land ! (from ! (stop !)) (init ! 12 refl (LL.lawful (J.the-type αᵉ) (J′.the-laws αᵉ) 𝓤 H A W .typed a _ is .0)) $
+          fills-by-call ! 12 refl (LL.lawful (J.the-type αᵉ) (J′.the-laws αᵉ) 𝓤 H A W .typed a _ is .0) $
           rewrite ! 12 (λ (w : Val). ‵ (fat fullShare (J′.mir erased) l₃ 0 w)) (spelled (J.the-type α) (J′.the-laws α) a u is) refl $
-          assigns ! (of-opd ! (load ! (from ! (fld ! refl (stop !))) (look-in ! 12 (sub ! 1 refl (whole !))))) (from ! (stop !)) (init ! 8 refl (LL.lawful (T.the-type αᵉ) (T′.the-laws αᵉ) 𝓤 H A W .typed (a .job) _ (LL.owed (J.the-type α) (J′.the-laws α) a _ is .1 .0) .0)) $
+          fills ! (of-opd ! (takes-field ! 12 1 refl refl refl))
+          8 refl (LL.lawful (T.the-type αᵉ) (T′.the-laws αᵉ) 𝓤 H A W .typed (a .job) _ (LL.owed (J.the-type α) (J′.the-laws α) a _ is .1 .0) .0) $
           use1 W (‵ (JobOwn 𝓤 H A W κ (a .job))) (job-out 𝓤 H A W κ a u) $ use2 W (raw (Run 𝓤 H A mem run .pre (to-run (a .job)))) (goes-run (a .job)) $
           calling run′.ended (run′.clauses 𝓤 H A mem run) ! 𝓣 known-run (to-run (a .job)) (λ b. b ≡ ranJob (a .job)) (λ b ws. id⊢ 𝓤 _)
-          (and-then ! (load ! (from ! (stop !)) (look ! 7 refl)) (no-more !)) (λ b u′ f is′.
-          land ! (from ! (stop !)) (init ! 10 refl (LL.lawful (J.the-type αᵉ) (J′.the-laws αᵉ) 𝓤 H A W .typed b _ is′ .0)) $
+          (and-then ! (takes ! 7 refl) (no-more !)) (λ b u′ f is′.
+          fills-by-call ! 10 refl (LL.lawful (J.the-type αᵉ) (J′.the-laws αᵉ) 𝓤 H A W .typed b _ is′ .0) $
           rewrite ! 10 (λ (w : Val). ‵ (fat fullShare (J′.mir erased) l₄ 0 w)) (spelled (J.the-type α) (J′.the-laws α) b u′ is′) refl $
-          assigns ! (of-opd ! (load ! (from ! (fld ! refl (stop !))) (look-in ! 12 (sub ! 0 refl (whole !))))) (from ! (stop !)) (init ! 6 refl (tt, record { fits = LL.owed (J.the-type α) (J′.the-laws α) a _ is .0 .1 })) $
-          assigns ! (of-opd ! (load ! (from ! (fld ! refl (stop !))) (look-in ! 10 (sub ! 1 refl (whole !))))) (from ! (stop !)) (init ! 2 refl (LL.lawful (T.the-type αᵉ) (T′.the-laws αᵉ) 𝓤 H A W .typed (b .job) _ (LL.owed (J.the-type α) (J′.the-laws α) b _ is′ .1 .0) .0)) $
+          fills ! (of-opd ! (takes-field ! 12 0 refl refl refl)) 6 refl (tt, record { fits = LL.owed (J.the-type α) (J′.the-laws α) a _ is .0 .1 }) $
+          fills ! (of-opd ! (takes-field ! 10 1 refl refl refl))
+          2 refl (LL.lawful (T.the-type αᵉ) (T′.the-laws αᵉ) 𝓤 H A W .typed (b .job) _ (LL.owed (J.the-type α) (J′.the-laws α) b _ is′ .1 .0) .0) $
           use1 W (‵ (JobOwn 𝓤 H A W κ (b .job))) (job-out 𝓤 H A W κ b u′) $ use2 W (raw (ToHash 𝓤 H A mem run .pre (to-run (b .job)))) (goes-run (b .job)) $
           calling to-hash.ended (to-hash.clauses 𝓤 H A mem run) ! 𝓣 known-to-hash (to-run (b .job)) (λ h. h ≡ jobHash (b .job)) (λ h ws. id⊢ 𝓤 _)
-          (and-then ! (load ! (from ! (stop !)) (look ! 1 refl)) (no-more !)) (λ h u″ g is″.
-          land ! (from ! (stop !)) (init ! 4 refl (LL.lawful G.the-type G′.the-laws 𝓤 H A W .typed h _ is″ .0)) $
+          (and-then ! (takes ! 1 refl) (no-more !)) (λ h u″ g is″.
+          fills-by-call ! 4 refl (LL.lawful G.the-type G′.the-laws 𝓤 H A W .typed h _ is″ .0) $
           use1 W (raw (Unless 𝓤 H A mem run .pre (to-unless (a .number) h u″))) (goes-unless (a .number) h u″ (LL.owed (J.the-type α) (J′.the-laws α) a _ is .0)) $
           calling unless.ended (unless.clauses 𝓤 H A mem run) ! 𝓣 known-unless (to-unless (a .number) h u″) (λ r. r ≡ unlessRefused (a .number) h) (λ r ws. id⊢ 𝓤 _)
-          (and-then ! (load ! (from ! (stop !)) (look ! 6 refl)) (and-then ! (load ! (from ! (stop !)) (look ! 4 refl)) (no-more !))) (λ r v k is-r.
+          (and-then ! (takes ! 6 refl) (and-then ! (takes ! 4 refl) (no-more !))) (λ r v k is-r.
           -- [the result; no token; the token; _8; …]
-          land ! (from ! (stop !)) (init ! 19 refl (LL.lawful G.the-type G′.the-laws 𝓤 H A W .typed r _ is-r .0)) $ move ! (1 ∷ []) $ drop ! $
-          returns ! (look ! 18 refl) $ forget ! 2 refl $ forget ! 4 refl $ forget ! 6 refl $ forget ! 8 refl $ forget ! 10 refl $ forget ! 12 refl $ forget ! 14 refl $ forget ! 16 refl $ forget ! 18 refl $
-          move ! (18 ∷ 19 ∷ []) $ free1 ! $ move ! (16 ∷ 17 ∷ []) $ free1 ! $ move ! (14 ∷ 15 ∷ []) $ free1 ! $ move ! (12 ∷ 13 ∷ []) $ free1 ! $ move ! (10 ∷ 11 ∷ []) $ free1 ! $ move ! (8 ∷ 9 ∷ []) $ free1 ! $
-          move ! (6 ∷ 7 ∷ []) $ free1 ! $ move ! (4 ∷ 5 ∷ []) $ free1 ! $ move ! (2 ∷ 3 ∷ []) $ free1 ! $ free0 ! $
-          by ! (ends 𝓤 H A W hash′.ended (hash′.clauses 𝓤 H A mem run) (((κ, tt), (q, tt), tt, (p, (x, tt)), at), tt) v r (tt, (tt, tt)) (factI 𝓤 (r ≡ hashed p (now x)) (emp 𝓤) (answered e f g k))))))))))))))))
+          fills-by-call ! 19 refl (LL.lawful G.the-type G′.the-laws 𝓤 H A W .typed r _ is-r .0) $ move ! (1 ∷ []) $ drop ! $
+          returns ! (look ! 18 refl) $ gone ! 18 refl refl $ gone ! 16 refl refl $ gone ! 14 refl refl $ gone ! 12 refl refl $ gone ! 10 refl refl $ gone ! 8 refl refl $
+          gone ! 6 refl refl $ gone ! 4 refl refl $ gone ! 2 refl refl $ free0 ! $
+          by ! (ends 𝓤 H A W hash′.ended (hash′.clauses 𝓤 H A mem run) passed v r (tt, (tt, tt)) (factI 𝓤 (r ≡ hashed p (now x)) (emp 𝓤) (answered e f g k))))))))))))))))
 
 pub hash-through-job-spec : {M : Type 1} → stated.statement M
 unfolding code.routine tablesOf
 hash-through-job-spec 𝓤 H 𝓜 𝓖 𝓡 =
     stands 𝓤 H 𝓜 𝓖 𝓡 code.env hash′.ended (hash′.clauses 𝓤 H (𝓖 .A) (𝓜 .mem) (𝓡 .run)) #hash code.function (code.unfolded 𝓤 H 𝓜 𝓡) ((λ κs x f. refl), ((λ κs x f. refl), tt))
     (λ κs. (LL.vals P.the-type P′.the-laws, (slice-vals, tt))) (λ κs. (LL.tells P.the-type P′.the-laws, (shr-slice-tells (named 0) (κs .0) u8, tt)))
-    (λ κs qs bounds a g are. via 𝓤 _ (fst∗ 𝓤 _ (emp 𝓤)) (walk 𝓤 H (𝓖 .A) (givenOf 𝓤 H 𝓜 𝓖) (𝓜 .mem) (𝓡 .run) (κs .0) (qs .0) (a .0) (a .1 .0) (are .0) (are .1 .0) (tablesOf 𝓤 H 𝓜 (tables 𝓤 H 𝓜 𝓡 code.env))
+    (λ κs qs bounds a g are. via 𝓤 _ (fst∗ 𝓤 _ (emp 𝓤))
+    (walk 𝓤 H (𝓖 .A) (givenOf 𝓤 H 𝓜 𝓖) (𝓜 .mem) (𝓡 .run) (κs .0) (qs .0) (a .0) (a .1 .0) (are .0) (are .1 .0) (tablesOf 𝓤 H 𝓜 (tables 𝓤 H 𝓜 𝓡 code.env))
     (cited 𝓤 H (New 𝓤 H (𝓖 .A) (𝓜 .mem) (𝓡 .run)) 𝓜 𝓡 code.env #new new-def.routine code.calls-held·held-job·HashManyJob·new (new-thm.met 𝓤 H 𝓜 𝓖 𝓡))
     (cited 𝓤 H (Run 𝓤 H (𝓖 .A) (𝓜 .mem) (𝓡 .run)) 𝓜 𝓡 code.env #run run-def.routine code.calls-held·held-job·HashManyJob·run (run-thm.met 𝓤 H 𝓜 𝓖 𝓡))
     (cited 𝓤 H (ToHash 𝓤 H (𝓖 .A) (𝓜 .mem) (𝓡 .run)) 𝓜 𝓡 code.env #to-hash to-hash-def.routine code.calls-held·held-job·HashManyJob·to-hash (to-hash-thm.met 𝓤 H 𝓜 𝓖 𝓡))

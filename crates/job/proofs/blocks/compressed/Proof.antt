@@ -5,6 +5,7 @@ use mathlib.Core.Bool.{_&&_}
 use denote.Ref.{now}
 use Rattle.definitions.specs.Family.{BLAKE2b}
 use Rattle.laws_blocks.specs.Blocks.{throughBlocks}
+use Rattle.blake2b_state.specs.Sizes.{blockbytes}
 use borrow.Author.Needs.{needs}
 use Rattle.job.proofs.blocks.compressed.Statement.{statement}
 use Rattle.job.proofs.blocks.compressed.Tie as tie
@@ -16,7 +17,7 @@ returns c =
     let n = f .before in
     let a = n .before .before .args in
     r .compress1-loop .ensures
-    ∙ (λ i. throughBlocks BLAKE2b 128 (a .words) (a .count) (f .finalize-if .ensures i) (f .finalize-if .ensures i && n .last-node-if .ensures i) (now (a .input)))
+    ∙ (λ i. throughBlocks BLAKE2b blockbytes (a .words) (a .count) (f .finalize-if .ensures i) (f .finalize-if .ensures i && n .last-node-if .ensures i) (now (a .input)))
 
 pub compressed-spec : {M : Type 1} → statement M
 compressed-spec = tie.close (tie.spec (λ c κs. search needs) (λ c κs. search needs) (λ c κs. search needs) returns)

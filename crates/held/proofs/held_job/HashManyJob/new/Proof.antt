@@ -16,8 +16,8 @@ use ghost.Atoms.{Atoms, sem}
 use contract.Monad.{Fun, factI}
 use contract.Running.{givenOf, tables, tablesOf}
 use types.Kit.{Given, ‵, raw, _⊛_, _$_, _∵_, !, qed, by, move, drop, use1, split, join, rewrite, frame, done}
-use types.Part.{agg, whole, sub, look-in}
-use types.Run.{look, init, forget, stop, fld, from, load, and-then, no-more, assigns, land, returns, enter, alloc1, alloc0, params1, pass1, pass0, free1, free0}
+use types.Part.{agg}
+use types.Run.{look, init, and-then, no-more, returns, enter, alloc1, alloc0, params1, pass1, pass0, free0}
 use denote.Laws.{Is}
 use denote.Builtin.{u8}
 use denote.Ref.{RefT, NamedLft, now}
@@ -33,6 +33,7 @@ use Rattle.blake2b.proofs.params.Params.Laws as P′
 use Rattle.held.specs.Steps.{madeWork}
 use Rattle.held.specs.HeldJob.{holding, answered, madeJob}
 use Rattle.held.specs.declared.steps.WorkAnswer.{WorkAnswer}
+use Rattle.walks.proofs.Locals.{takes, takes-field, takes-inner, fills, fills-by-call, gone}
 use Rattle.walks.proofs.Walk.{contractOf, calling, Ends, ends, stands, spelled, is-spelled}
 use Rattle.held.proofs.Ownership.{answerVal, InputOwn, StepOwns, Token, is-held, is-answered, beside, lent, together}
 use Rattle.held.proofs.steps.WorkAnswer as R
@@ -66,40 +67,46 @@ module _ {M : Type 1} (𝓤 : URA M) (H : Heap 𝓤) (A : Atoms 𝓤) (W : Given
   abbrev at : Vals new.signature (κ, tt)
   at = (LL.vals P.the-type P′.the-laws p, (slice-vals x, tt))
 
+  abbrev Had : SProp 𝓤
+  Had = onEntry 𝓤 H A new.signature (κ, tt) (q, tt) (p, (x, tt)) at
+
+  abbrev passed : Ends 𝓤 H A W new.ended (new.clauses 𝓤 H A mem run) .Ghost
+  passed = (((κ, tt), (q, tt), tt, (p, (x, tt)), at), tt)
+
   abbrev Post : Val → SProp 𝓤
-  Post = Ends 𝓤 H A W new.ended (new.clauses 𝓤 H A mem run) .post (((κ, tt), (q, tt), tt, (p, (x, tt)), at), tt)
+  Post = Ends 𝓤 H A W new.ended (new.clauses 𝓤 H A mem run) .post passed
 
   abbrev to : Make 𝓤 H A mem run .Ghost
   to = (((κ, tt), (q, tt), tt, (p, (x, tt)), at), tt)
 
   module _ (is-p : Is P.the-row p (LL.vals P.the-type P′.the-laws p)) (is-x : Is (ShrSlice (named 0) κ u8) x (slice-vals x)) (𝓣 : Tables 𝓤 H)
       (known : Triple 𝓤 (𝓣 .C #make) (Make 𝓤 H A mem run)) where
-    asked : ent 𝓤 (onEntry 𝓤 H A new.signature (κ, tt) (q, tt) (p, (x, tt)) at) (sep 𝓤 (Make 𝓤 H A mem run .pre to) (sem 𝓤 H A (InputOwn 𝓤 H A W κ x)))
+    asked : ent 𝓤 Had (sep 𝓤 (Make 𝓤 H A mem run .pre to) (sem 𝓤 H A (InputOwn 𝓤 H A W κ x)))
     asked =
         via 𝓤 _ (beside 𝓤 H A W κ q p x) (lent 𝓤 H A W κ q P.the-type P′.the-plain P′.the-laws p is-p x
         (qed W (Token 𝓤 H A W κ q ∷ ‵ (StepOwns 𝓤 H A W κ q P.the-type P′.the-plain P′.the-laws p is-p x) ∷ []) ∵ join ! $ frame ! $ done !))
 
-    walk : ent 𝓤 (onEntry 𝓤 H A new.signature (κ, tt) (q, tt) (p, (x, tt)) at) (WpFn 𝓤 H (𝓣 .C) (𝓣 .Λ) code.function (LL.val P.the-type P′.the-laws p ∷ slice-vals x) Post)
+    walk : ent 𝓤 Had (WpFn 𝓤 H (𝓣 .C) (𝓣 .Λ) code.function (LL.val P.the-type P′.the-laws p ∷ slice-vals x) Post)
     walk =
-        qed W (raw (onEntry 𝓤 H A new.signature (κ, tt) (q, tt) (p, (x, tt)) at) ∷ []) ∵ enter ! (𝓣 .C) (𝓣 .Λ) code.function (LL.val P.the-type P′.the-laws p ∷ slice-vals x) _ $
+        qed W (raw Had ∷ []) ∵ enter ! (𝓣 .C) (𝓣 .Λ) code.function (LL.val P.the-type P′.the-laws p ∷ slice-vals x) _ $
         alloc1 ! (λ l₀. alloc1 ! (λ l₁. alloc1 ! (λ l₂. alloc1 ! (λ l₃. alloc1 ! (λ l₄. alloc0 ! $ params1 ! $
-        pass1 ! (init ! 6 refl (LL.lawful P.the-type P′.the-laws 𝓤 H A W .typed p _ is-p .0)) $ pass1 ! (init ! 4 refl (shr-slice-lawful 𝓤 H A W (named 0) κ u8 .typed x _ is-x .0)) $ pass0 ! $
+        pass1 ! (init ! 6 refl (LL.lawful P.the-type P′.the-laws 𝓤 H A W .typed p _ is-p .0)) $ pass1 ! (init ! 4 refl (shr-slice-lawful 𝓤 H A W (named 0) κ u8 .typed x _ is-x .0)) $
+        pass0 ! $
         move ! (10 ∷ []) $ use1 W (raw (Make 𝓤 H A mem run .pre to) ⊛ ‵ (InputOwn 𝓤 H A W κ x)) asked $ split ! $
         calling make.ended (make.clauses 𝓤 H A mem run) ! 𝓣 known to (λ a. a ≡ madeWork p (now x)) (λ a ws. id⊢ 𝓤 _)
-        (and-then ! (load ! (from ! (stop !)) (look ! 8 refl)) (and-then ! (load ! (from ! (stop !)) (look ! 6 refl)) (no-more !))) (λ a u e is.
-        land ! (from ! (stop !)) (init ! 5 refl (LL.lawful R.the-type R′.the-laws 𝓤 H A W .typed a _ is .0)) $ drop ! $
+        (and-then ! (takes ! 8 refl) (and-then ! (takes ! 6 refl) (no-more !))) (λ a u e is.
+        fills-by-call ! 5 refl (LL.lawful R.the-type R′.the-laws 𝓤 H A W .typed a _ is .0) $ drop ! $
         rewrite ! 4 (λ (w : Val). ‵ (fat fullShare R′.mir l₃ 0 w)) (spelled R.the-type R′.the-laws a u is) refl $
         -- [the token; what the input owns; _4; …; _3; …; _2; …; _1; …; _0; …]
-        assigns ! (agg ! (and-then ! (load ! (from ! (fld ! refl (fld ! refl (stop !)))) (look-in ! 4 (sub ! 0 refl (sub ! 1 refl (whole !))))) (and-then ! (load ! (from ! (fld ! refl (fld ! refl (stop !)))) (look-in ! 4 (sub ! 1 refl (sub ! 1 refl (whole !)))))
-        (and-then ! (load ! (from ! (fld ! refl (fld ! refl (stop !)))) (look-in ! 4 (sub ! 2 refl (sub ! 1 refl (whole !))))) (and-then ! (load ! (from ! (fld ! refl (fld ! refl (stop !)))) (look-in ! 4 (sub ! 3 refl (sub ! 1 refl (whole !)))))
-        (and-then ! (load ! (from ! (stop !)) (look ! 6 refl)) (and-then ! (load ! (from ! (fld ! refl (fld ! refl (stop !)))) (look-in ! 4 (sub ! 4 refl (sub ! 1 refl (whole !))))) (no-more !)))))))) (from ! (stop !))
-        (init ! 2 refl (LL.lawful (T.the-type αᵉ) (T′.the-laws αᵉ) 𝓤 H A W .typed (holding (a .work) x) _ (is-held αᵉ (a .work) x (LL.owed R.the-type R′.the-laws a _ is .1 .0) is-x) .0)) $
-        assigns ! (agg ! (and-then ! (load ! (from ! (fld ! refl (stop !))) (look-in ! 4 (sub ! 0 refl (whole !)))) (and-then ! (load ! (from ! (stop !)) (look ! 2 refl)) (no-more !)))) (from ! (stop !))
-        (init ! 10 refl (LL.lawful (J.the-type α) (J′.the-laws α) 𝓤 H A W .typed (answered a x) _ (is-answered α a x (is-spelled R.the-type R′.the-laws a u is) is-x) .0)) $
-        returns ! (look ! 10 refl) $ forget ! 2 refl $ forget ! 4 refl $ forget ! 6 refl $ forget ! 8 refl $ forget ! 10 refl $
-        move ! (10 ∷ 11 ∷ []) $ free1 ! $ move ! (8 ∷ 9 ∷ []) $ free1 ! $ move ! (6 ∷ 7 ∷ []) $ free1 ! $ move ! (4 ∷ 5 ∷ []) $ free1 ! $ move ! (2 ∷ 3 ∷ []) $ free1 ! $ free0 ! $
+        fills ! (agg ! (and-then ! (takes-inner ! 4 1 0 refl refl refl refl refl) (and-then ! (takes-inner ! 4 1 1 refl refl refl refl refl)
+        (and-then ! (takes-inner ! 4 1 2 refl refl refl refl refl) (and-then ! (takes-inner ! 4 1 3 refl refl refl refl refl)
+        (and-then ! (takes ! 6 refl) (and-then ! (takes-inner ! 4 1 4 refl refl refl refl refl) (no-more !))))))))
+        2 refl (LL.lawful (T.the-type αᵉ) (T′.the-laws αᵉ) 𝓤 H A W .typed (holding (a .work) x) _ (is-held αᵉ (a .work) x (LL.owed R.the-type R′.the-laws a _ is .1 .0) is-x) .0) $
+        fills ! (agg ! (and-then ! (takes-field ! 4 0 refl refl refl) (and-then ! (takes ! 2 refl) (no-more !))))
+        10 refl (LL.lawful (J.the-type α) (J′.the-laws α) 𝓤 H A W .typed (answered a x) _ (is-answered α a x (is-spelled R.the-type R′.the-laws a u is) is-x) .0) $
+        returns ! (look ! 10 refl) $ gone ! 10 refl refl $ gone ! 8 refl refl $ gone ! 6 refl refl $ gone ! 4 refl refl $ gone ! 2 refl refl $ free0 ! $
         move ! (1 ∷ []) $ use1 W (‵ (J.the-row α .own (answered a x) (answerVal α (answered a x) ∷ []))) (together 𝓤 H A W κ a x (is-spelled R.the-type R′.the-laws a u is)) $
-        by ! (ends 𝓤 H A W new.ended (new.clauses 𝓤 H A mem run) (((κ, tt), (q, tt), tt, (p, (x, tt)), at), tt) (answerVal α (answered a x)) (answered a x) (tt, (tt, tt))
+        by ! (ends 𝓤 H A W new.ended (new.clauses 𝓤 H A mem run) passed (answerVal α (answered a x)) (answered a x) (tt, (tt, tt))
         (factI 𝓤 (answered a x ≡ madeJob p x) (emp 𝓤) (ap (λ (b : WorkAnswer). answered b x) e)))))))))
 
 pub new-spec : {M : Type 1} → stated.statement M
@@ -107,5 +114,6 @@ unfolding code.routine tablesOf
 new-spec 𝓤 H 𝓜 𝓖 𝓡 =
     stands 𝓤 H 𝓜 𝓖 𝓡 code.env new.ended (new.clauses 𝓤 H (𝓖 .A) (𝓜 .mem) (𝓡 .run)) #new code.function (code.unfolded 𝓤 H 𝓜 𝓡) ((λ κs x f. refl), ((λ κs x f. refl), tt))
     (λ κs. (LL.vals P.the-type P′.the-laws, (slice-vals, tt))) (λ κs. (LL.tells P.the-type P′.the-laws, (shr-slice-tells (named 0) (κs .0) u8, tt)))
-    (λ κs qs bounds a g are. via 𝓤 _ (fst∗ 𝓤 _ (emp 𝓤)) (walk 𝓤 H (𝓖 .A) (givenOf 𝓤 H 𝓜 𝓖) (𝓜 .mem) (𝓡 .run) (κs .0) (qs .0) (a .0) (a .1 .0) (are .0) (are .1 .0) (tablesOf 𝓤 H 𝓜 (tables 𝓤 H 𝓜 𝓡 code.env))
+    (λ κs qs bounds a g are. via 𝓤 _ (fst∗ 𝓤 _ (emp 𝓤))
+    (walk 𝓤 H (𝓖 .A) (givenOf 𝓤 H 𝓜 𝓖) (𝓜 .mem) (𝓡 .run) (κs .0) (qs .0) (a .0) (a .1 .0) (are .0) (are .1 .0) (tablesOf 𝓤 H 𝓜 (tables 𝓤 H 𝓜 𝓡 code.env))
     (cited 𝓤 H (Make 𝓤 H (𝓖 .A) (𝓜 .mem) (𝓡 .run)) 𝓜 𝓡 code.env #make make-def.routine code.calls-held·steps·make (make-thm.met 𝓤 H 𝓜 𝓖 𝓡))))

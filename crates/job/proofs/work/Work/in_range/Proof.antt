@@ -12,10 +12,13 @@ unfolding limit
 counted c = search needs
 
 returns : tie.Need-returns
-returns c = range-no-digest (c .before .before .args .self) (c .before .before .args .length) (c .if1 .taken)
+returns c = let a = c .before .before .args in range-no-digest (a .self) (a .length) (c .if1 .taken)
 
 returns-2 : tie.Need-returns-2
-returns-2 c = range-long-digest (c .before .before .before .args .self) (c .before .before .before .args .length) (c .before .if1 .left) (c .if2 .taken)
+returns-2 c =
+    let i = c .before in
+    let a = i .before .before .args in
+    range-long-digest (a .self) (a .length) (i .if1 .left) (c .if2 .taken)
 
 returns-3 : tie.Need-returns-3
 unfolding limit

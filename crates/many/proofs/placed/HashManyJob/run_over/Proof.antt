@@ -15,6 +15,10 @@ use Rattle.many.proofs.placed.HashManyJob.run_over.Tie as tie
 add-sub : (a b : ℕ) → a + b - a ≡ b
 add-sub a b = omega arith
 
+-- a finished job is handed back
+returns : tie.Need-returns
+returns c = let a = c .before .before .before .args in over-finished (a .«data» .now) (a .self) (c .if1 .taken)
+
 abbrev begun : tie.Else1 → tie.Start
 begun c = c .before .before .before
 
@@ -26,9 +30,6 @@ lies c =
 
 within : (c : tie.Else1) → begun c .args .self .work .count + begun c .args .self .length ≤ limit
 within c = let a = begun c .args in in-range (a .self .work) (a .self .length) (accepted-range (length (a .«data» .now)) (a .self) (begun c .pre)) .1
-
-returns : tie.Need-returns
-returns c = over-finished (c .before .before .before .args .«data» .now) (c .before .before .before .args .self) (c .if1 .taken)
 
 add-end : tie.Need-add-end
 add-end c = let l = lies (c .before) in omega arith

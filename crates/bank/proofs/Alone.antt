@@ -10,7 +10,7 @@ use borrow.Author.Tests.{ltb-true, le-leb, leb-true, eqb-true, eqb-false}
 use lib.Dec.{ltb, leb, eqb}
 use lib.ListN.{length, set, take, length-set, length-take}
 use lib.Seq.{getD-set-same, take-length}
-use Rattle.numbers.specs.Numbers.{accepted, slot-number, batch-long, bad-record}
+use Rattle.refusals.specs.Numbers.{accepted, slot-number, batch-long, bad-record}
 use Rattle.bank.specs.Rules.{Ask, Call, on, update-many, Reply, Result, Kind, refusal, every, goodAsk, reply, fed, at, fault, batch, step, answers}
 use Rattle.members.specs.Row.{Answer}
 use Rattle.bank.specs.Apart.{ofSlot, answersOn, onlyOn}

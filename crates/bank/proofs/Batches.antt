@@ -9,7 +9,7 @@ use native.Mathlib.Omega.{arith}
 use borrow.Author.Tests.{not-true, not-false, lt-ltb, le-ltb, le-leb, lt-leb, eq-eqb, ne-eqb}
 use lib.ListN.{length, getD, set, length-set}
 use lib.Seq.{slice, slice-cons, slice-empty}
-use Rattle.numbers.specs.Numbers.{accepted, slot-number, batch-long, bad-record}
+use Rattle.refusals.specs.Numbers.{accepted, slot-number, batch-long, bad-record}
 use Rattle.bank.specs.Rules.{update-many, fed, every, at, batch, step}
 use Rattle.bank.specs.Slots.{slots, slot-limit, batch-limit, told, batchAnswer, slotAnswer}
 use Rattle.bank.specs.declared.bank.Bank.{Bank}

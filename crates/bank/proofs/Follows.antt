@@ -7,9 +7,9 @@ use Prim.Native.Nat.{ℕ, zero, suc}
 use borrow.Author.Tests.{eqb-true}
 use lib.Dec.{ltb, leb, eqb}
 use lib.ListN.{length, getD, set, take, List·getD-map}
-use Rattle.numbers.specs.Numbers.{accepted, pieceOk}
-use Rattle.numbers.proofs.Picks.{tested-keeps, tested-both}
-use Rattle.numbers.proofs.Picks as picks
+use Rattle.refusals.specs.Numbers.{accepted, pieceOk}
+use Rattle.refusals.proofs.Picks.{tested-keeps, tested-both}
+use Rattle.refusals.proofs.Picks as picks
 use Rattle.members.specs.Row.{Answer, numbered}
 use Rattle.blake2b.specs.Params.{inRange, Clean}
 use Rattle.blake2b.specs.declared.params.Params.{Params}

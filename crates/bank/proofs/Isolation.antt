@@ -9,7 +9,7 @@ use lib.Dec.{leb, eqb}
 use lib.ListN.{length, take, replicate, length-replicate}
 use Rattle.definitions.specs.Family.{BLAKE2b}
 use Rattle.definitions.specs.Hash.{keyed}
-use Rattle.numbers.specs.Numbers.{accepted, limit}
+use Rattle.refusals.specs.Numbers.{accepted, limit}
 use Rattle.members.specs.Row.{Answer, Row}
 use Rattle.blake2b.specs.Params.{keyOf}
 use Rattle.blake2b.specs.Row.{rowTaker}

@@ -9,7 +9,7 @@ use native.Mathlib.Omega.{arith}
 use borrow.Author.Tests.{ltb-true, eqb-false}
 use lib.Dec.{ltb, eqb}
 use lib.ListN.{length, getD, set, take}
-use Rattle.numbers.specs.Numbers.{accepted, slot-number, bad-record}
+use Rattle.refusals.specs.Numbers.{accepted, slot-number, bad-record}
 use Rattle.bank.specs.Rules.{Result, Kind, every, fed, at, fault, batch}
 use Rattle.bank.specs.declared.piece.Piece.{Piece}
 use Rattle.bank.proofs.Cases.{either}

@@ -9,7 +9,7 @@ use borrow.Author.Tests.{ne-eqb}
 use lib.ListN.{length, take, drop}
 use Rattle.definitions.specs.Words.{pad}
 use Rattle.laws_words.specs.Bytes.{zeros}
-use Rattle.numbers.specs.Numbers.{accepted, slot-closed, piece-outside, slot-open, pieceOk}
+use Rattle.refusals.specs.Numbers.{accepted, slot-closed, piece-outside, slot-open, pieceOk}
 use Rattle.hash.specs.Hash.{hashOf, digestOf, zeroHash}
 use Rattle.blake2b.specs.Params.{inRange}
 use Rattle.blake2b.specs.Member.{opened}

@@ -11,7 +11,7 @@ use lib.ListN.{length, getD, set, drop, drop-of-length-le, length-map}
 use lib.Seq.{drop-cons}
 use Rattle.definitions.specs.Words.{pad}
 use Rattle.laws_words.specs.Bytes.{zeros}
-use Rattle.numbers.specs.Numbers.{accepted, slot-number, bad-record}
+use Rattle.refusals.specs.Numbers.{accepted, slot-number, bad-record}
 use Rattle.hash.specs.Hash.{zeroHash}
 use Rattle.hash.specs.declared.Hash.{Hash}
 use Rattle.bank.specs.Rules.{Ask, opening, update, digest, digest-to, count, close, on, refusal, reply, every, goodAsk, at, fault, step}

@@ -9,7 +9,7 @@ use borrow.Author.Tests.{eqb-false, eq-eqb, ne-eqb}
 use lib.Dec.{leb, eqb}
 use lib.ListN.{length}
 use Rattle.laws_words.specs.Bytes.{over}
-use Rattle.numbers.specs.Numbers.{accepted, slot-closed}
+use Rattle.refusals.specs.Numbers.{accepted, slot-closed}
 use Rattle.hash.specs.Hash.{isDigestLength, hashInRange, hashOf, digestOf, writtenAnswered, writtenOver}
 use Rattle.hash.specs.declared.LengthAnswer.{LengthAnswer}
 use Rattle.hash.specs.declared.HashAnswer.{HashAnswer}

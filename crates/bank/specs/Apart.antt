@@ -6,7 +6,7 @@ use mathlib.Core.Path.{_≡_}
 use Prim.Native.Nat.{ℕ}
 use lib.Dec.{eqb}
 use lib.ListN.{length, take}
-use Rattle.numbers.specs.Numbers.{accepted}
+use Rattle.refusals.specs.Numbers.{accepted}
 use Rattle.members.specs.Row.{Answer}
 use Rattle.bank.specs.Rules.{Call, on, update-many, Kind, step}
 use Rattle.bank.specs.declared.piece.Piece.{Piece}

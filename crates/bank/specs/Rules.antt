@@ -5,8 +5,8 @@ use mathlib.Core.List.{List, [], _∷_, _++_}
 use Prim.Native.Nat.{ℕ, suc}
 use lib.Dec.{ltb, leb, eqb}
 use lib.ListN.{length, getD, set, take, drop}
-use Rattle.numbers.specs.Numbers.{accepted, slot-number, slot-closed, piece-outside, batch-long, output-short, slot-open, bad-record, pieceOk}
-use Rattle.numbers.specs.Tests.{Test, test, tested, first}
+use Rattle.refusals.specs.Numbers.{accepted, slot-number, slot-closed, piece-outside, batch-long, output-short, slot-open, bad-record, pieceOk}
+use Rattle.refusals.specs.Tests.{Test, test, tested, first}
 use Rattle.members.specs.Row.{Answer, numbered, Taker}
 use Rattle.blake2b.specs.Params.{inRange}
 use Rattle.blake2b.specs.declared.params.Params.{Params}

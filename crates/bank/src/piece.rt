@@ -1,8 +1,8 @@
 // A record of a batch: for which slot, and which part of the batch's data.
 // Open to callers, who make them; a bad one is refused with 7, 8 or 9.
-use numbers::ACCEPTED;
-use numbers::CLOSED;
-use numbers::PIECE;
+use refusals::ACCEPTED;
+use refusals::CLOSED;
+use refusals::PIECE;
 ghost use mathlib.Core.Path.{_≡_};
 ghost use Rattle.bank.specs.Rules.{placeFault};
 

@@ -12,9 +12,9 @@ use lib.Seq.{take-append-seam}
 use Rattle.definitions.specs.Words.{pad}
 use Rattle.definitions.proofs.Lengths.{length-pad}
 use Rattle.laws_words.specs.Bytes.{zeros}
-use Rattle.numbers.specs.Numbers.{accepted, digest-length, key-length, salt-length, personal-length, inner-length, bad-record}
-use Rattle.numbers.specs.Tests.{Test, test}
-use Rattle.numbers.proofs.Picks.{All, tested-keeps}
+use Rattle.refusals.specs.Numbers.{accepted, digest-length, key-length, salt-length, personal-length, inner-length, bad-record}
+use Rattle.refusals.specs.Tests.{Test, test}
+use Rattle.refusals.proofs.Picks.{All, tested-keeps}
 use Rattle.hash.specs.Hash.{isDigestLength}
 use Rattle.blake2b.specs.Params.{defaults, inRange, answered, withNumber, withFields, hash-length-at, fanout-at, max-depth-at, max-leaf-length-at, node-offset-at, node-depth-at, inner-hash-length-at, withKey, withSalt, withPersonal, Clean, Setting, hash-length, key, salt, personal, fanout, max-depth, max-leaf-length, node-offset, node-depth, inner-hash-length, last-node, afterSetting}
 use Rattle.blake2b.specs.declared.params.Params.{Params}

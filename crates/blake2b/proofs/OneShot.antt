@@ -11,7 +11,7 @@ use lib.ListN.{length, take}
 use Rattle.definitions.specs.Family.{BLAKE2b}
 use Rattle.definitions.specs.Hash.{start, stateBytes}
 use Rattle.laws_blocks.specs.Blocks.{throughBlocks}
-use Rattle.numbers.specs.Numbers.{accepted, total-over, limit}
+use Rattle.refusals.specs.Numbers.{accepted, total-over, limit}
 use Rattle.guts.specs.Guts.{isLastNode}
 use Rattle.guts.specs.declared.LastNode.{LastNode}
 use Rattle.members.proofs.Promises as promises

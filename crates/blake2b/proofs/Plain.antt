@@ -12,7 +12,7 @@ use Rattle.definitions.specs.Family.{BLAKE2b}
 use Rattle.definitions.specs.Hash.{sequential, parameterBlock, start, keyed, calls, compress, stateBytes, untruncated, hash, blake2}
 use Rattle.laws_words.specs.Bytes.{zeros}
 use Rattle.laws_blocks.proofs.Sizes.{length-whole}
-use Rattle.numbers.specs.Numbers.{limit}
+use Rattle.refusals.specs.Numbers.{limit}
 use Rattle.hash.specs.Hash.{hashOf}
 use Rattle.hash.specs.declared.HashAnswer.{HashAnswer}
 use Rattle.blake2b.specs.Params.{defaults, asked, front}

@@ -12,7 +12,7 @@ use Rattle.definitions.proofs.Lengths.{length-pad}
 use Rattle.laws_states.specs.Buffer as buffer
 use Rattle.laws_states.proofs.Buffers.{Sound}
 use Rattle.laws_states.proofs.Buffers as buffers
-use Rattle.numbers.proofs.Limits.{wide}
+use Rattle.refusals.proofs.Limits.{wide}
 use Rattle.members.proofs.Closings.{one-digest}
 use Rattle.members.proofs.Laws.{Laws, Begun}
 use Rattle.hash.specs.Hash.{isDigestLength}

@@ -14,8 +14,8 @@ use Rattle.definitions.specs.Hash.{keyed, untruncated, hash}
 use Rattle.laws_states.specs.Buffer.{joined}
 use Rattle.laws_states.proofs.Buffers.{Sound}
 use Rattle.laws_states.proofs.Buffers as buffers
-use Rattle.numbers.specs.Numbers.{accepted, total-over, limit}
-use Rattle.numbers.proofs.Limits.{wide}
+use Rattle.refusals.specs.Numbers.{accepted, total-over, limit}
+use Rattle.refusals.proofs.Limits.{wide}
 use Rattle.members.specs.Row.{Call, answers, digested, counted, Row, row}
 use Rattle.members.specs.Keeper as keeping
 use Rattle.members.specs.Member as calls

@@ -9,8 +9,8 @@ use lib.ListN.{length, take}
 use Rattle.definitions.specs.Words.{pad}
 use Rattle.definitions.specs.Hash.{Parameters}
 use Rattle.laws_words.specs.Bytes.{zeros}
-use Rattle.numbers.specs.Numbers.{accepted, digest-length, key-length, salt-length, personal-length, inner-length, bad-record}
-use Rattle.numbers.specs.Tests.{Test, test, tested}
+use Rattle.refusals.specs.Numbers.{accepted, digest-length, key-length, salt-length, personal-length, inner-length, bad-record}
+use Rattle.refusals.specs.Tests.{Test, test, tested}
 use Rattle.hash.specs.Hash.{isDigestLength}
 use Rattle.blake2b_state.specs.State.{keyFront}
 use Rattle.blake2b.specs.declared.params.Params.{Params}

@@ -6,7 +6,7 @@ use Prim.Native.Nat.{ℕ}
 use lib.ListN.{length}
 use Rattle.definitions.specs.Family.{BLAKE2b}
 use Rattle.definitions.specs.Hash.{keyed, hash}
-use Rattle.numbers.specs.Numbers.{accepted, limit}
+use Rattle.refusals.specs.Numbers.{accepted, limit}
 use Rattle.members.specs.Row.{Taker, Row, row, digested, counted}
 use Rattle.members.specs.Row as rows
 use Rattle.blake2b.specs.Params.{asked, keyOf, withLastNode}

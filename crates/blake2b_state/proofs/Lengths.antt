@@ -10,7 +10,7 @@ use Rattle.definitions.specs.Family.{BLAKE2b}
 use Rattle.definitions.specs.Hash.{stateBytes}
 use Rattle.laws_blocks.specs.Blocks.{throughBlocks}
 use Rattle.laws_blocks.proofs.Sizes.{length-through}
-use Rattle.numbers.specs.Numbers.{accepted, bad-record}
+use Rattle.refusals.specs.Numbers.{accepted, bad-record}
 use Rattle.hash.specs.Hash.{isDigestLength, digestOf}
 use Rattle.blake2b_state.specs.State.{bounds, pending, stateInRange, closedDigest, finalized}
 use Rattle.blake2b_state.specs.declared.state.State.{State}

@@ -10,7 +10,7 @@ use Rattle.laws_blocks.specs.Blocks.{onBytes}
 use Rattle.laws_states.proofs.Buffers.{Lawful}
 use Rattle.laws_states.proofs.Lifts.{Store}
 use Rattle.laws_states.proofs.Serial.{serial-lawful}
-use Rattle.numbers.specs.Numbers.{accepted}
+use Rattle.refusals.specs.Numbers.{accepted}
 use Rattle.members.specs.Row.{digested}
 use Rattle.members.proofs.Laws.{KeeperLaws}
 use Rattle.members.proofs.Laws as members

@@ -10,8 +10,8 @@ use Rattle.definitions.specs.Hash.{sequential, start, stateBytes}
 use Rattle.laws_words.specs.Bytes.{zeros}
 use Rattle.laws_blocks.specs.Blocks.{onBytes, throughBlocks}
 use Rattle.laws_states.specs.Buffer.{Machine, Held, serial}
-use Rattle.numbers.specs.Numbers.{accepted, bad-record, limit}
-use Rattle.numbers.specs.Tests.{test, tested}
+use Rattle.refusals.specs.Numbers.{accepted, bad-record, limit}
+use Rattle.refusals.specs.Tests.{test, tested}
 use Rattle.members.specs.Row.{digested}
 use Rattle.members.specs.Row as row
 use Rattle.members.specs.Keeper.{Bounds, Keeper, Reads}

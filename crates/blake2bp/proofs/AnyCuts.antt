@@ -8,7 +8,7 @@ use lib.ListN.{length}
 use Rattle.definitions.specs.Words.{pad}
 use Rattle.laws_states.specs.Buffer.{joined}
 use Rattle.laws_states.proofs.Buffers.{Sound}
-use Rattle.numbers.specs.Numbers.{accepted, limit}
+use Rattle.refusals.specs.Numbers.{accepted, limit}
 use Rattle.members.specs.Member.{reached}
 use Rattle.members.proofs.Cuts as cuts
 use Rattle.members.proofs.Promises as promises

@@ -9,9 +9,9 @@ use lib.Dec.{leb}
 use lib.ListN.{length}
 use Rattle.definitions.proofs.Lengths.{length-pad}
 use Rattle.laws_words.specs.Bytes.{zeros}
-use Rattle.numbers.specs.Numbers.{accepted, bad-record}
-use Rattle.numbers.specs.Tests.{Test, test}
-use Rattle.numbers.proofs.Picks.{All, tested-keeps}
+use Rattle.refusals.specs.Numbers.{accepted, bad-record}
+use Rattle.refusals.specs.Tests.{Test, test}
+use Rattle.refusals.proofs.Picks.{All, tested-keeps}
 use Rattle.hash.specs.Hash.{isDigestLength}
 use Rattle.blake2bp.specs.Params.{defaults, inRange, answered, withHashLength, withKey, Setting, hash-length, key, afterSetting}
 use Rattle.blake2bp.specs.declared.params.Params.{Params}

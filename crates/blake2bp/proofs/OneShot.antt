@@ -8,14 +8,14 @@ use lib.ListN.{length, take}
 use Rattle.definitions.specs.Family.{BLAKE2b}
 use Rattle.laws_states.specs.Deal.{finished}
 use Rattle.laws_states.specs.Leaves.{rooted, leafStarts, rootStart}
-use Rattle.numbers.specs.Numbers.{accepted, total-over, limit}
+use Rattle.refusals.specs.Numbers.{accepted, total-over, limit}
 use Rattle.members.proofs.Promises as promises
 use Rattle.hash.specs.Hash.{hashOf, noHash, madeFrom}
 use Rattle.hash.specs.declared.HashAnswer.{HashAnswer}
 use Rattle.laws_states.proofs.Trees.{length-rooted}
 use Rattle.hash.proofs.Digests.{made-hash}
-use Rattle.leaves.specs.Leaves.{leafOf, wordsOf, onLeaf}
-use Rattle.leaves.specs.declared.leaves.Leaf.{Leaf}
+use Rattle.blake2bp_leaves.specs.Leaves.{leafOf, wordsOf, onLeaf}
+use Rattle.blake2bp_leaves.specs.declared.leaves.Leaf.{Leaf}
 use Rattle.blake2bp.specs.Params.{defaults}
 use Rattle.blake2bp.specs.State.{keyBytes, fresh, updated, finalized, digest, hashed, reads, member}
 use Rattle.blake2bp.specs.declared.params.Params.{Params}

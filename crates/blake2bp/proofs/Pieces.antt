@@ -18,9 +18,9 @@ use Rattle.laws_states.proofs.Trees.{row-some, row-none}
 use Rattle.members.specs.Keeper.{keyRow}
 use Rattle.members.proofs.Laws.{Begun}
 use Rattle.members.proofs.Closings.{length-key-row, tree-digest}
-use Rattle.leaves.specs.Leaves.{leafOf, wordsOf, onLeaf}
-use Rattle.leaves.specs.declared.leaves.Leaf.{Leaf}
-use Rattle.leaves.proofs.Turns.{words-on-leaf}
+use Rattle.blake2bp_leaves.specs.Leaves.{leafOf, wordsOf, onLeaf}
+use Rattle.blake2bp_leaves.specs.declared.leaves.Leaf.{Leaf}
+use Rattle.blake2bp_leaves.proofs.Turns.{words-on-leaf}
 use Rattle.blake2bp.specs.Params.{keyOf}
 use Rattle.blake2bp.specs.State.{front, keyBytes, bounds, fresh, member}
 use Rattle.blake2bp.specs.declared.params.Params.{Params}

@@ -11,7 +11,7 @@ use Rattle.laws_states.specs.Buffer.{gone}
 use Rattle.laws_states.specs.Buffer as buffer
 use Rattle.laws_states.proofs.Buffers.{Sound}
 use Rattle.laws_states.proofs.Buffers as buffers
-use Rattle.numbers.specs.Numbers.{accepted, limit}
+use Rattle.refusals.specs.Numbers.{accepted, limit}
 use Rattle.blake2bp.specs.Params.{defaults}
 use Rattle.blake2bp.specs.State.{core, bounds, machine, keeper, member, pending, total, stateInRange, fresh, reads, updated, leafCounted, bufferedIn}
 use Rattle.blake2bp.specs.declared.state.State.{State}

@@ -7,18 +7,18 @@ use Rattle.definitions.specs.Family.{BLAKE2b}
 use Rattle.laws_states.proofs.Buffers.{Lawful}
 use Rattle.laws_states.proofs.Lifts.{Store}
 use Rattle.laws_states.proofs.Deals.{parallel-lawful}
-use Rattle.numbers.specs.Numbers.{accepted}
-use Rattle.numbers.proofs.Limits.{wide}
+use Rattle.refusals.specs.Numbers.{accepted}
+use Rattle.refusals.proofs.Limits.{wide}
 use Rattle.members.specs.Row.{digested}
 use Rattle.members.proofs.Laws.{KeeperLaws, Laws}
 use Rattle.members.proofs.Promises.{Faithful}
 use Rattle.members.proofs.Closings.{tree-late}
-use Rattle.leaves.proofs.Turns.{words-on-leaf}
+use Rattle.blake2bp_leaves.proofs.Turns.{words-on-leaf}
 use Rattle.hash.proofs.Digests.{digest-of-hash}
 use Rattle.members.proofs.Laws as members
-use Rattle.leaves.specs.Leaves.{wordsOf, onLeaf}
+use Rattle.blake2bp_leaves.specs.Leaves.{wordsOf, onLeaf}
 use Rattle.blake2bp.specs.State.{machine, reads, keeper, member}
-use Rattle.leaves.specs.declared.leaves.Leaf.{Leaf}
+use Rattle.blake2bp_leaves.specs.declared.leaves.Leaf.{Leaf}
 use Rattle.blake2bp.specs.declared.state.State.{State}
 
 abbrev pub lawful : Lawful machine

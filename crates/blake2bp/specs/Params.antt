@@ -7,8 +7,8 @@ use lib.Dec.{leb}
 use lib.ListN.{length, take}
 use Rattle.definitions.specs.Words.{pad}
 use Rattle.laws_words.specs.Bytes.{zeros}
-use Rattle.numbers.specs.Numbers.{accepted, digest-length, key-length, bad-record}
-use Rattle.numbers.specs.Tests.{Test, test, tested}
+use Rattle.refusals.specs.Numbers.{accepted, digest-length, key-length, bad-record}
+use Rattle.refusals.specs.Tests.{Test, test, tested}
 use Rattle.hash.specs.Hash.{isDigestLength}
 use Rattle.blake2bp.specs.declared.params.Params.{Params}
 use Rattle.blake2bp.specs.declared.params.ParamsAnswer.{ParamsAnswer}

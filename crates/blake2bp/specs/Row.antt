@@ -4,7 +4,7 @@ use mathlib.Core.List.{List}
 use Prim.Native.Nat.{ℕ, _+_}
 use lib.ListN.{length}
 use Rattle.definitions.specs.Tree.{BLAKE2bp}
-use Rattle.numbers.specs.Numbers.{limit}
+use Rattle.refusals.specs.Numbers.{limit}
 use Rattle.members.specs.Row.{Taker, Row, digested, counted}
 use Rattle.members.specs.Row as rows
 use Rattle.hash.specs.Hash.{digestOf}

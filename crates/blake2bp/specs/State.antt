@@ -12,7 +12,7 @@ use Rattle.laws_words.specs.Bytes.{zeros}
 use Rattle.laws_states.specs.Buffer.{Machine, Held}
 use Rattle.laws_states.specs.Deal.{parallel, finished}
 use Rattle.laws_states.specs.Leaves.{rooted, keyedRow, leafStarts, rootStart}
-use Rattle.numbers.specs.Numbers.{accepted, bad-record, limit}
+use Rattle.refusals.specs.Numbers.{accepted, bad-record, limit}
 use Rattle.members.specs.Row.{digested}
 use Rattle.members.specs.Row as row
 use Rattle.members.specs.Keeper.{Bounds, Keeper, Reads, keyRow}
@@ -21,9 +21,9 @@ use Rattle.members.specs.Member.{Member}
 use Rattle.members.specs.Member as members
 use Rattle.hash.specs.Hash.{hashOf, digestOf, noHash}
 use Rattle.hash.specs.declared.HashAnswer.{HashAnswer}
-use Rattle.leaves.specs.Leaves.{leafOf, wordsOf, onLeaf}
+use Rattle.blake2bp_leaves.specs.Leaves.{leafOf, wordsOf, onLeaf}
 use Rattle.blake2bp.specs.Params.{inRange, keyOf}
-use Rattle.leaves.specs.declared.leaves.Leaf.{Leaf}
+use Rattle.blake2bp_leaves.specs.declared.leaves.Leaf.{Leaf}
 use Rattle.blake2bp.specs.declared.params.Params.{Params}
 use Rattle.blake2bp.specs.declared.state.State.{State}
 use Rattle.blake2bp.specs.declared.state.StateAnswer.{StateAnswer}

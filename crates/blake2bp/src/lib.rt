@@ -5,8 +5,8 @@ mod one_shot;
 mod params;
 mod state;
 
+pub use blake2bp_leaves::LeafCount;
 pub use counts::MessageCount;
-pub use leaves::LeafCount;
 pub use one_shot::blake2bp;
 pub use params::Params;
 pub use params::ParamsAnswer;

@@ -1,16 +1,16 @@
 // The hash of a whole message: with a key through a state, without one straight to the leaves.
 // Total, as the state's calls are.
 use crate::params::Params;
+use blake2bp_leaves::LeafCount;
+use blake2bp_leaves::finalize_root_words;
+use blake2bp_leaves::finish_leaves;
+use blake2bp_leaves::leaf_words;
+use blake2bp_leaves::root_words;
 use hash::Hash;
 use hash::HashAnswer;
-use leaves::LeafCount;
-use leaves::finalize_root_words;
-use leaves::finish_leaves;
-use leaves::leaf_words;
-use leaves::root_words;
-use numbers::ACCEPTED;
-use numbers::RECORD;
-use numbers::TOTAL;
+use refusals::ACCEPTED;
+use refusals::RECORD;
+use refusals::TOTAL;
 ghost use mathlib.Core.Path.{_≡_};
 ghost use Rattle.hash.specs.Hash.{hashOf};
 ghost use Rattle.blake2bp.specs.Params.{defaults};

@@ -2,10 +2,10 @@
 // A setter overwrites its whole field, so that nothing of an older value stays.
 use guts::store;
 use hash::is_digest_length;
-use numbers::ACCEPTED;
-use numbers::DIGEST_LENGTH;
-use numbers::KEY_LENGTH;
-use numbers::RECORD;
+use refusals::ACCEPTED;
+use refusals::DIGEST_LENGTH;
+use refusals::KEY_LENGTH;
+use refusals::RECORD;
 ghost use mathlib.Core.Path.{_≡_};
 ghost use mathlib.Core.List.{[], _∷_};
 ghost use Prim.Native.Nat.{_≤_};
@@ -13,8 +13,8 @@ ghost use lib.Dec.{leb};
 ghost use lib.ListN.{length};
 ghost use Rattle.definitions.specs.Words.{pad};
 ghost use Rattle.laws_words.specs.Bytes.{zeros};
-ghost use Rattle.numbers.specs.Numbers.{digest-length, key-length};
-ghost use Rattle.numbers.specs.Tests.{test};
+ghost use Rattle.refusals.specs.Numbers.{digest-length, key-length};
+ghost use Rattle.refusals.specs.Tests.{test};
 ghost use Rattle.hash.specs.Hash.{isDigestLength};
 ghost use Rattle.blake2bp.specs.Params.{defaults, inRange, answered, withHashLength, withKey};
 
@@ -57,9 +57,9 @@ impl Params {
 
     pub const KEYBYTES: usize = 64;
 
-    pub const BLOCKBYTES: usize = leaves::BLOCKBYTES;
+    pub const BLOCKBYTES: usize = blake2bp_leaves::BLOCKBYTES;
 
-    pub const DEGREE: usize = leaves::DEGREE;
+    pub const DEGREE: usize = blake2bp_leaves::DEGREE;
 
     pub fn new() -> Self
         ensures { λ r. ⌜ r ≡ defaults ⌝ }

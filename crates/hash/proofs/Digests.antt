@@ -12,7 +12,7 @@ use lib.Seq.{take-append-seam, drop-append-seam, length-take-le}
 use Rattle.definitions.specs.Words.{pad}
 use Rattle.laws_words.specs.Bytes.{over}
 use Rattle.laws_words.proofs.Bytes.{pad-whole}
-use Rattle.numbers.specs.Numbers.{accepted, digest-length, bad-record}
+use Rattle.refusals.specs.Numbers.{accepted, digest-length, bad-record}
 use Rattle.hash.specs.Hash.{isDigestLength, hashInRange, hashOf, digestOf, zeroHash, noHash, madeFrom, lengthAnswered, sameBytes, compared, hexOf}
 use Rattle.hash.specs.declared.Hash.{Hash}
 use Rattle.hash.specs.declared.HashAnswer.{HashAnswer}

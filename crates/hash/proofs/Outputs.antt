@@ -11,7 +11,7 @@ use lib.ListN.{length, take, drop, length-append, length-drop}
 use lib.Seq.{paste, take-append-seam, drop-append-seam}
 use Rattle.laws_words.specs.Bytes.{over}
 use Rattle.laws_words.proofs.Stores.{paste-front}
-use Rattle.numbers.specs.Numbers.{accepted, output-short, bad-record}
+use Rattle.refusals.specs.Numbers.{accepted, output-short, bad-record}
 use Rattle.hash.specs.Hash.{hashInRange, hashOf, digestOf, writtenAnswered, writtenOver, writtenPart}
 use Rattle.hash.specs.Output.{wrote, wroteOver, wrotePart}
 use Rattle.hash.specs.declared.Hash.{Hash}

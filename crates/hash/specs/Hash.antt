@@ -7,7 +7,7 @@ use lib.Dec.{leb, ltb, eqb}
 use lib.ListN.{length, take}
 use Rattle.definitions.specs.Words.{pad}
 use Rattle.laws_words.specs.Bytes.{zeros}
-use Rattle.numbers.specs.Numbers.{accepted, digest-length, bad-record}
+use Rattle.refusals.specs.Numbers.{accepted, digest-length, bad-record}
 use Rattle.hash.specs.Output.{wrote, wroteOver, wrotePart}
 use Rattle.hash.specs.declared.Hash.{Hash}
 use Rattle.hash.specs.declared.HashAnswer.{HashAnswer}

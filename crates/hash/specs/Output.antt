@@ -6,7 +6,7 @@ use Prim.Native.Nat.{ℕ}
 use lib.Dec.{leb}
 use lib.ListN.{length, take}
 use Rattle.laws_words.specs.Bytes.{over}
-use Rattle.numbers.specs.Numbers.{accepted, output-short}
+use Rattle.refusals.specs.Numbers.{accepted, output-short}
 use Rattle.hash.specs.declared.LengthAnswer.{LengthAnswer}
 
 -- n bytes of text to an output of `room` bytes: 11 where that is shorter

@@ -1,8 +1,8 @@
 // Two digests are equal where length and bytes agree, and a digest and other bytes the same.
 use crate::EqualAnswer;
 use crate::Hash;
-use numbers::ACCEPTED;
-use numbers::RECORD;
+use refusals::ACCEPTED;
+use refusals::RECORD;
 ghost use mathlib.Core.Path.{_≡_};
 ghost use mathlib.Core.Bool.{true};
 ghost use Rattle.hash.specs.Hash.{hashInRange, digestOf, sameBytes, compared};

@@ -6,9 +6,9 @@ mod output;
 mod writing;
 
 use guts::store;
-use numbers::ACCEPTED;
-use numbers::DIGEST_LENGTH;
-use numbers::RECORD;
+use refusals::ACCEPTED;
+use refusals::DIGEST_LENGTH;
+use refusals::RECORD;
 ghost use mathlib.Core.Path.{_≡_};
 ghost use Rattle.laws_words.specs.Bytes.{zeros};
 ghost use Rattle.hash.specs.Hash.{isDigestLength, hashInRange, hashOf, zeroHash, noHash, madeFrom, lengthAnswered};

@@ -2,8 +2,8 @@
 // The answer is by one rule, and what is written or handed back goes by the answer.
 use crate::LengthAnswer;
 use guts::store;
-use numbers::ACCEPTED;
-use numbers::OUTPUT;
+use refusals::ACCEPTED;
+use refusals::OUTPUT;
 ghost use mathlib.Core.Path.{_≡_};
 ghost use lib.ListN.{length};
 ghost use Rattle.hash.specs.Output.{wrote, wroteOver, wrotePart};

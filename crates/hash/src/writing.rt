@@ -5,7 +5,7 @@ use crate::LengthAnswer;
 use crate::hex::put_hex;
 use crate::output::write;
 use crate::output::written;
-use numbers::RECORD;
+use refusals::RECORD;
 ghost use mathlib.Core.Path.{_≡_};
 ghost use lib.ListN.{length};
 ghost use Rattle.hash.specs.Hash.{digestOf, hexOf, writtenAnswered, writtenOver, writtenPart};

@@ -11,7 +11,7 @@ use borrow.Author.Tests.{le-leb, lt-leb, eq-eqb, ne-eqb, eqb-true, eqb-false}
 use lib.Dec.{eqb}
 use lib.ListN.{length, getD, take, set, length-take}
 use lib.Seq.{slice, slice-cons, slice-empty, getD-take}
-use Rattle.numbers.specs.Numbers.{accepted, batch-long}
+use Rattle.refusals.specs.Numbers.{accepted, batch-long}
 use Rattle.many.specs.Job.{runOver, jobRefusal}
 use Rattle.many.specs.Batch.{mapped, firstBad, settled, jobsRun}
 use Rattle.many.specs.declared.placed.HashManyJob.{HashManyJob}

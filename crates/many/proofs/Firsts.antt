@@ -9,7 +9,7 @@ use native.Mathlib.Omega.{arith}
 use borrow.Author.Tests.{eqb-true, eqb-false}
 use lib.Dec.{eqb}
 use lib.ListN.{length, getD, take}
-use Rattle.numbers.specs.Numbers.{accepted}
+use Rattle.refusals.specs.Numbers.{accepted}
 use Rattle.many.specs.Job.{jobRefusal}
 use Rattle.many.specs.Batch.{firstBad, jobsRun}
 use Rattle.many.specs.declared.placed.HashManyJob.{HashManyJob}

@@ -8,14 +8,14 @@ use native.Mathlib.Omega.{arith}
 use borrow.Author.Tests.{not-true, not-false, leb-true}
 use lib.Dec.{leb}
 use lib.ListN.{length}
-use Rattle.numbers.specs.Numbers.{accepted, total-over, piece-outside, bad-record, limit, pieceOk}
+use Rattle.refusals.specs.Numbers.{accepted, total-over, piece-outside, bad-record, limit, pieceOk}
 use Rattle.hash.specs.Hash.{noHash}
 use Rattle.blake2b.specs.Params.{inRange}
 use Rattle.blake2b.specs.declared.params.Params.{Params}
-use Rattle.job.specs.Work.{keyBytes, begun, ran}
-use Rattle.job.specs.declared.work.Work.{Work}
-use Rattle.job.proofs.Works.{run-finished, run-unfinished}
-use Rattle.job.proofs.Runs.{zero-out-of-range}
+use Rattle.many_work.specs.Work.{keyBytes, begun, ran}
+use Rattle.many_work.specs.declared.work.Work.{Work}
+use Rattle.many_work.proofs.Works.{run-finished, run-unfinished}
+use Rattle.many_work.proofs.Runs.{zero-out-of-range}
 use Rattle.many.specs.Job.{placed, zeroJob, noJob, jobInRange, madeJob, inputOf, runOver, jobRefusal, jobHash}
 use Rattle.many.specs.declared.placed.HashManyJob.{HashManyJob}
 use Rattle.many.specs.declared.placed.JobAnswer.{JobAnswer}

@@ -9,8 +9,8 @@ use borrow.Author.Tests.{leb-true, leb-false, eqb-true, eqb-false}
 use lib.Dec.{leb, eqb}
 use lib.ListN.{length, getD, take, length-take}
 use lib.Seq.{getD-take}
-use Rattle.numbers.specs.Numbers.{accepted, batch-long}
-use Rattle.job.proofs.Runs.{run-finishes, run-keeps-range}
+use Rattle.refusals.specs.Numbers.{accepted, batch-long}
+use Rattle.many_work.proofs.Runs.{run-finishes, run-keeps-range}
 use Rattle.many.specs.Job.{inputOf, runOver, jobRefusal}
 use Rattle.many.specs.Batch.{mapped, firstBad, jobsRun}
 use Rattle.many.specs.declared.placed.HashManyJob.{HashManyJob}

@@ -10,15 +10,15 @@ use lib.Dec.{leb, eqb}
 use lib.ListN.{length, getD, take, drop, length-take, length-drop}
 use Rattle.definitions.specs.Family.{BLAKE2b}
 use Rattle.definitions.specs.Hash.{hash}
-use Rattle.numbers.specs.Numbers.{accepted, job-unfinished, limit, pieceOk}
-use Rattle.numbers.proofs.Pieces.{inside}
+use Rattle.refusals.specs.Numbers.{accepted, job-unfinished, limit, pieceOk}
+use Rattle.refusals.proofs.Pieces.{inside}
 use Rattle.hash.specs.Hash.{hashOf, noHash}
 use Rattle.blake2b.specs.Params.{asked, keyOf, Clean}
 use Rattle.blake2b.specs.Member.{hashed}
 use Rattle.blake2b.specs.declared.params.Params.{Params}
 use Rattle.blake2b.proofs.Rows.{digest-is-hash}
-use Rattle.job.specs.Work.{finishedAtOnce, keyBytes, begun, runOn, workHash}
-use Rattle.job.proofs.Runs.{begun-range, begun-unfinished, run-digest, run-one-shot, at-once}
+use Rattle.many_work.specs.Work.{finishedAtOnce, keyBytes, begun, runOn, workHash}
+use Rattle.many_work.proofs.Runs.{begun-range, begun-unfinished, run-digest, run-one-shot, at-once}
 use Rattle.many.specs.Job.{placed, madeJob, runOver, jobRefusal, jobHash}
 use Rattle.many.specs.Batch.{jobsRun}
 use Rattle.many.specs.declared.placed.HashManyJob.{HashManyJob}

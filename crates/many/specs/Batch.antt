@@ -5,8 +5,8 @@ use mathlib.Core.List.{List, [], _∷_, _++_, map}
 use Prim.Native.Nat.{ℕ, suc}
 use lib.Dec.{leb, eqb}
 use lib.ListN.{length, take, drop}
-use Rattle.numbers.specs.Numbers.{accepted, batch-long}
-use Rattle.numbers.specs.Tests.{test, tested}
+use Rattle.refusals.specs.Numbers.{accepted, batch-long}
+use Rattle.refusals.specs.Tests.{test, tested}
 use Rattle.many.specs.Job.{runOver, jobRefusal}
 use Rattle.many.specs.declared.placed.HashManyJob.{HashManyJob}
 use Rattle.many.specs.declared.batch.FirstBad.{FirstBad}

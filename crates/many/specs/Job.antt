@@ -5,13 +5,13 @@ use mathlib.Core.List.{List, [], _∷_}
 use Prim.Native.Nat.{ℕ, _+_}
 use lib.Dec.{leb}
 use lib.ListN.{length, take, drop}
-use Rattle.numbers.specs.Numbers.{accepted, total-over, piece-outside, bad-record, limit, pieceOk}
-use Rattle.numbers.specs.Tests.{Test, test, tested, first}
+use Rattle.refusals.specs.Numbers.{accepted, total-over, piece-outside, bad-record, limit, pieceOk}
+use Rattle.refusals.specs.Tests.{Test, test, tested, first}
 use Rattle.blake2b.specs.Params.{inRange}
 use Rattle.hash.specs.declared.HashAnswer.{HashAnswer}
 use Rattle.blake2b.specs.declared.params.Params.{Params}
-use Rattle.job.specs.Work.{zeroWork, workInRange, keyBytes, begun, runOn, workHash}
-use Rattle.job.specs.declared.work.Work.{Work}
+use Rattle.many_work.specs.Work.{zeroWork, workInRange, keyBytes, begun, runOn, workHash}
+use Rattle.many_work.specs.declared.work.Work.{Work}
 use Rattle.many.specs.declared.placed.HashManyJob.{HashManyJob}
 use Rattle.many.specs.declared.placed.JobAnswer.{JobAnswer}
 

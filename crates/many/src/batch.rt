@@ -1,12 +1,12 @@
 // A batch of jobs over one lent buffer: all are checked, the first bad one decides, and only then is any run.
 // Each result stands at its job's place.
 use crate::placed::HashManyJob;
-use numbers::ACCEPTED;
-use numbers::BATCH;
+use refusals::ACCEPTED;
+use refusals::BATCH;
 ghost use mathlib.Core.Path.{_≡_};
 ghost use Prim.Native.Nat.{_≤_};
 ghost use lib.ListN.{length, take};
-ghost use Rattle.numbers.specs.Numbers.{accepted};
+ghost use Rattle.refusals.specs.Numbers.{accepted};
 ghost use Rattle.many.specs.Job.{runOver};
 ghost use Rattle.many.specs.Batch.{most-jobs, mapped, firstBad, jobsRun};
 

@@ -2,17 +2,17 @@
 // Made, refused, run and asked here; the work itself is the crate `job`'s.
 use blake2b::Params;
 use hash::HashAnswer;
-use job::Work;
-use job::begin;
-use job::has_room;
-use numbers::ACCEPTED;
-use numbers::PIECE;
-use numbers::RECORD;
-use numbers::TOTAL;
-use numbers::piece_ok;
+use many_work::Work;
+use many_work::begin;
+use many_work::has_room;
+use refusals::ACCEPTED;
+use refusals::PIECE;
+use refusals::RECORD;
+use refusals::TOTAL;
+use refusals::piece_ok;
 ghost use mathlib.Core.Path.{_≡_};
 ghost use lib.ListN.{length};
-ghost use Rattle.numbers.specs.Numbers.{accepted};
+ghost use Rattle.refusals.specs.Numbers.{accepted};
 ghost use Rattle.many.specs.Job.{zeroJob, noJob, madeJob, runOver, jobRefusal, jobHash};
 
 pub struct HashManyJob {

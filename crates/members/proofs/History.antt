@@ -9,7 +9,7 @@ use borrow.Author.Tests.{leb-true}
 use lib.Dec.{leb}
 use lib.ListN.{length, length-append}
 use Rattle.laws_states.specs.Buffer.{joined}
-use Rattle.numbers.specs.Numbers.{accepted}
+use Rattle.refusals.specs.Numbers.{accepted}
 use Rattle.members.specs.Row.{Call, answers, digested, counted, Row, row}
 use Rattle.members.specs.Keeper.{pushed, stateTaker}
 use Rattle.members.specs.Member.{Member, limit, reached, rowTaker}

@@ -8,7 +8,7 @@ use native.Mathlib.Omega.{arith}
 use borrow.Author.Tests.{le-leb, leb-true}
 use lib.Dec.{leb}
 use lib.ListN.{length}
-use Rattle.numbers.specs.Numbers.{accepted, total-over}
+use Rattle.refusals.specs.Numbers.{accepted, total-over}
 use Rattle.members.specs.Keeper.{pushed, finalized, stateTaker}
 use Rattle.members.specs.Member.{Member, limit, hashed}
 use Rattle.members.proofs.Laws.{Laws, Begun}

@@ -7,8 +7,8 @@ use Prim.Native.Nat.{ℕ, _+_, _-_, _≤_}
 use lib.ListN.{length}
 use Rattle.laws_states.specs.Buffer.{joined}
 use Rattle.laws_states.proofs.Buffers.{Sound}
-use Rattle.numbers.specs.Numbers.{accepted, total-over}
-use Rattle.numbers.proofs.Picks.{tested-ap}
+use Rattle.refusals.specs.Numbers.{accepted, total-over}
+use Rattle.refusals.proofs.Picks.{tested-ap}
 use Rattle.members.specs.Row.{Call, answers, digested, counted, row}
 use Rattle.members.specs.Keeper.{keyRow, Keeper, Reads, pushed, total, inRange, closedDigest, askTests, updateTests, finalized, counts, updated, stateTaker, update-answer, hash-answer, count-answer, taker}
 use Rattle.members.specs.Member.{Member, limit, reached, rowTaker, one-shot-answer}

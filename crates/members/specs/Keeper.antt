@@ -7,8 +7,8 @@ use lib.Dec.{leb}
 use lib.ListN.{length}
 use Rattle.laws_states.specs.Buffer.{Machine, Held}
 use Rattle.laws_states.specs.Buffer as buffer
-use Rattle.numbers.specs.Numbers.{accepted, total-over, bad-record}
-use Rattle.numbers.specs.Tests.{Test, test, tested}
+use Rattle.refusals.specs.Numbers.{accepted, total-over, bad-record}
+use Rattle.refusals.specs.Tests.{Test, test, tested}
 use Rattle.members.specs.Row.{Answer, digested, counted, Taker}
 
 pub record Bounds : Type 0 where

@@ -5,8 +5,8 @@ use mathlib.Core.List.{List, [], _∷_, foldl}
 use Prim.Native.Nat.{ℕ, _+_}
 use lib.Dec.{leb}
 use lib.ListN.{length}
-use Rattle.numbers.specs.Numbers.{accepted, total-over, bad-record}
-use Rattle.numbers.specs.Tests.{Test, test, tested}
+use Rattle.refusals.specs.Numbers.{accepted, total-over, bad-record}
+use Rattle.refusals.specs.Tests.{Test, test, tested}
 use Rattle.members.specs.Row.{Taker, Row}
 use Rattle.members.specs.Row as row
 use Rattle.members.specs.Keeper.{Keeper, Reads, pushed}

@@ -4,8 +4,8 @@ use mathlib.Core.List.{List, [], _∷_, _++_}
 use Prim.Native.Nat.{ℕ, _+_}
 use lib.Dec.{leb}
 use lib.ListN.{length}
-use Rattle.numbers.specs.Numbers.{accepted, total-over}
-use Rattle.numbers.specs.Tests.{Test, test, first, tested}
+use Rattle.refusals.specs.Numbers.{accepted, total-over}
+use Rattle.refusals.specs.Tests.{Test, test, first, tested}
 
 pub record Answer : Type 0 where
   -- 0, or document 01's refusal

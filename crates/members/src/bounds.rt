@@ -1,9 +1,9 @@
 // The ranges of refusal 14 that a state keeps, over a member's bounds as plain numbers.
 // One test for every member: its own function names the bounds.
-use numbers::LIMIT;
+use refusals::LIMIT;
 ghost use mathlib.Core.Path.{_≡_};
 ghost use Prim.Native.Nat.{_<_};
-ghost use Rattle.numbers.specs.Numbers.{limit};
+ghost use Rattle.refusals.specs.Numbers.{limit};
 ghost use Rattle.members.specs.Keeper.{isLength, rangeOf};
 
 fn is_length(most: usize, n: usize) -> bool

@@ -4,9 +4,9 @@ use crate::banks;
 use crate::session::Session;
 use crate::table;
 use blake2b::Params;
-use held::hash_through_job;
 use many::HashManyJob;
 use many::hash_many;
+use many_held::hash_through_job;
 use replay::answer_of_digest;
 use replay_text::Call;
 

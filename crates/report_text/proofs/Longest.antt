@@ -10,7 +10,7 @@ use lib.Dec.{leb}
 use lib.ListN.{length, length-append}
 use Rattle.definitions.specs.Family.{BLAKE2b}
 use Rattle.definitions.specs.Hash.{blake2}
-use Rattle.numbers.specs.Numbers.{limit}
+use Rattle.refusals.specs.Numbers.{limit}
 use Rattle.hash.specs.Hash.{hexOf}
 use Rattle.hash.proofs.Digests.{length-hex}
 use Rattle.blake2b.proofs.Plain.{length-of-digest}

@@ -10,7 +10,7 @@ use lib.Dec.{leb, eqb}
 use lib.ListN.{length, length-append}
 use Rattle.definitions.specs.Family.{BLAKE2b}
 use Rattle.definitions.specs.Hash.{keyed, blake2}
-use Rattle.numbers.specs.Numbers.{accepted, total-over, limit}
+use Rattle.refusals.specs.Numbers.{accepted, total-over, limit}
 use Rattle.hash.specs.Hash.{digestOf}
 use Rattle.blake2b.specs.Params.{defaults}
 use Rattle.members.specs.Row.{Answer, Row, row}

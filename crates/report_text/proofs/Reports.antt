@@ -10,7 +10,7 @@ use lib.Dec.{eqb}
 use lib.ListN.{length, take, drop}
 use lib.Seq.{take-append-seam}
 use Rattle.laws_words.specs.Bytes.{over}
-use Rattle.numbers.specs.Numbers.{accepted, bad-record}
+use Rattle.refusals.specs.Numbers.{accepted, bad-record}
 use Rattle.hash.specs.Hash.{hashInRange, digestOf, hexOf, lengthAnswered, writtenAnswered}
 use Rattle.hash.specs.Hash as hashes
 use Rattle.blake2b_state.specs.State.{stateInRange, updated, finalized, counted, closedDigest, bounds}

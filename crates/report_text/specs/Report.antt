@@ -6,7 +6,7 @@ use Prim.Native.Nat.{ℕ, zero, suc}
 use lib.Dec.{eqb}
 use lib.IntN.{ℤ, pos, negsuc}
 use lib.ListN.{length, take}
-use Rattle.numbers.specs.Numbers.{accepted, bad-record}
+use Rattle.refusals.specs.Numbers.{accepted, bad-record}
 use Rattle.hash.specs.Hash.{digestOf}
 use Rattle.hash.specs.Output.{wrote, wroteOver}
 use Rattle.blake2b.specs.Params.{defaults}

@@ -9,7 +9,7 @@ use denote.Ref.{now}
 use lib.ListN.{length}
 use Rattle.definitions.specs.Family.{BLAKE2b}
 use Rattle.definitions.specs.Hash.{blake2}
-use Rattle.numbers.specs.Numbers.{limit}
+use Rattle.refusals.specs.Numbers.{limit}
 use Rattle.hash.specs.declared.HashAnswer.{HashAnswer}
 use Rattle.hash.proofs.Outputs.{written-output}
 use Rattle.blake2b_state.specs.State.{updated, finalized}

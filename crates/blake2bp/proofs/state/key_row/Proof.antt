@@ -10,7 +10,7 @@ use Rattle.laws_states.specs.Leaves.{rowOf}
 use Rattle.laws_words.proofs.Stores.{pad-none}
 use Rattle.laws_states.proofs.Pastes.{row-more}
 use Rattle.laws_states.proofs.Trees.{length-row}
-use Rattle.leaves.proofs.Turns.{filled-turn}
+use Rattle.blake2bp_leaves.proofs.Turns.{filled-turn}
 use Rattle.blake2bp.proofs.state.key_row.Statement.{statement}
 use Rattle.blake2bp.proofs.state.key_row.Tie as tie
 

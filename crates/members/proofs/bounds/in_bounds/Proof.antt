@@ -8,7 +8,7 @@ use native.Mathlib.Omega.{arith}
 use borrow.Author.Needs.{needs}
 use borrow.Author.Tests.{le-leb}
 use lib.Dec.{leb}
-use Rattle.numbers.specs.Numbers.{limit}
+use Rattle.refusals.specs.Numbers.{limit}
 use Rattle.members.specs.Keeper.{Bounds, totalOf, keyRow, rangeOf}
 use Rattle.members.proofs.Ranges.{range-digest, range-overfull, range-over, range-last}
 use Rattle.members.proofs.bounds.in_bounds.Statement.{statement}

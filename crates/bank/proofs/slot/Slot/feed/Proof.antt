@@ -3,7 +3,7 @@
 use Prim.Native.Nat.{_+_, _≤_}
 use native.Mathlib.Omega.{arith}
 use lib.ListN.{length}
-use Rattle.numbers.proofs.Pieces.{inside}
+use Rattle.refusals.proofs.Pieces.{inside}
 use Rattle.bank.proofs.Replies.{fed-refused, fed-inside, fed-updated}
 use borrow.Author.Needs.{needs}
 use Rattle.bank.proofs.slot.Slot.feed.Statement.{statement}

@@ -3,8 +3,8 @@
 use mathlib.Core.Path.{refl}
 use borrow.Author.Needs.{needs}
 use borrow.Author.Tests.{eq-eqb, ne-eqb}
-use Rattle.numbers.specs.Numbers.{accepted}
-use Rattle.numbers.proofs.Picks.{passed, refused, holds, fails}
+use Rattle.refusals.specs.Numbers.{accepted}
+use Rattle.refusals.proofs.Picks.{passed, refused, holds, fails}
 use Rattle.blake2b.proofs.params.Params.answer.Statement.{statement}
 use Rattle.blake2b.proofs.params.Params.answer.Tie as tie
 

@@ -6,13 +6,13 @@ use mathlib.Core.List.{List}
 use borrow.Author.Tests.{not-false}
 use lib.ListN.{length}
 use Prim.Native.Nat.{ℕ, _≤_}
-use Rattle.numbers.specs.Numbers.{limit}
+use Rattle.refusals.specs.Numbers.{limit}
 use Rattle.blake2b.specs.Params.{inRange}
 use Rattle.blake2b_state.specs.State.{updated}
 use Rattle.blake2b.specs.Member.{fresh, hashed}
 use Rattle.blake2b_state.specs.declared.state.State.{State}
 use Rattle.hash.specs.Hash.{madeFrom}
-use Rattle.numbers.proofs.Picks.{refused}
+use Rattle.refusals.proofs.Picks.{refused}
 use Rattle.blake2b.proofs.OneShot.{hashed-past, hashed-through, hashed-straight}
 use borrow.Author.Needs.{needs}
 use Rattle.blake2b.proofs.params.Params.hash.Statement.{statement}

@@ -2,7 +2,7 @@
 -- Assumes nothing.
 use mathlib.Core.Path.{refl}
 use borrow.Author.Tests.{le-leb, lt-leb}
-use Rattle.numbers.proofs.Picks.{and-holds, and-fails, and-passed, and-refused}
+use Rattle.refusals.proofs.Picks.{and-holds, and-fails, and-passed, and-refused}
 use Rattle.blake2b.specs.Params.{inRange}
 use borrow.Author.Needs.{needs}
 use Rattle.blake2b.proofs.params.Params.in_range.Statement.{statement}

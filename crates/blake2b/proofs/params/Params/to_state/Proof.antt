@@ -1,8 +1,8 @@
 -- `blake2b::params::Params::to_state` meets its contract.
 -- Assumes nothing.
 use mathlib.Core.Path.{ap}
-use Rattle.numbers.specs.Numbers.{accepted, bad-record}
-use Rattle.numbers.proofs.Picks.{passed, refused}
+use Rattle.refusals.specs.Numbers.{accepted, bad-record}
+use Rattle.refusals.proofs.Picks.{passed, refused}
 use Rattle.blake2b_state.specs.State.{reads}
 use Rattle.blake2b.specs.Member.{opened}
 use borrow.Author.Needs.{needs}

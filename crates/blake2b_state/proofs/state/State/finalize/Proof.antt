@@ -6,11 +6,11 @@ use mathlib.Core.List.{List}
 use Prim.Native.Nat.{ℕ}
 use native.Mathlib.Omega.{arith}
 use lib.ListN.{length, take, length-take}
-use Rattle.numbers.specs.Numbers.{limit}
+use Rattle.refusals.specs.Numbers.{limit}
 use Rattle.laws_states.specs.Buffer.{pending}
 use Rattle.hash.proofs.Digests.{digest-length-is, made-hash}
 use Rattle.members.proofs.Ranges.{Kept, kept}
-use Rattle.numbers.proofs.Picks.{passed, refused}
+use Rattle.refusals.proofs.Picks.{passed, refused}
 use Rattle.definitions.specs.Family.{BLAKE2b}
 use Rattle.definitions.specs.Hash.{stateBytes}
 use Rattle.laws_blocks.specs.Blocks.{throughBlocks}

@@ -1,7 +1,7 @@
 -- `blake2b_state::state::State::set_last_node` meets its contract.
 -- Assumes nothing.
 use mathlib.Core.Path.{refl}
-use Rattle.numbers.proofs.Picks.{passed, refused}
+use Rattle.refusals.proofs.Picks.{passed, refused}
 use Rattle.blake2b_state.specs.State.{lastNodeSet}
 use borrow.Author.Needs.{needs}
 use Rattle.blake2b_state.proofs.state.State.set_last_node.Statement.{statement}

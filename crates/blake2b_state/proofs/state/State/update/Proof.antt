@@ -5,11 +5,11 @@ use Prim.Native.Nat.{ℕ, _+_, _≤_}
 use native.Mathlib.Omega.{arith}
 use borrow.Author.Tests.{le-leb, lt-leb}
 use lib.ListN.{length}
-use Rattle.numbers.specs.Numbers.{accepted, limit}
+use Rattle.refusals.specs.Numbers.{accepted, limit}
 use Rattle.laws_blocks.specs.Chain.{spare}
 use Rattle.laws_blocks.proofs.Rows.{spare-none}
 use Rattle.members.proofs.Ranges.{Kept, kept}
-use Rattle.numbers.proofs.Picks.{passed, refused, holds, fails}
+use Rattle.refusals.proofs.Picks.{passed, refused, holds, fails}
 use Rattle.blake2b_state.specs.State.{total, pushed, reads, updated, keeper}
 use Rattle.blake2b_state.specs.declared.state.State.{State}
 use Rattle.members.proofs.Moves.{taken-tight}

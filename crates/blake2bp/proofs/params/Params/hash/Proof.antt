@@ -5,11 +5,11 @@ use mathlib.Core.Bool.{true}
 use Prim.Native.Nat.{_≤_}
 use borrow.Author.Tests.{not-false}
 use lib.ListN.{length}
-use Rattle.numbers.specs.Numbers.{limit}
+use Rattle.refusals.specs.Numbers.{limit}
 use Rattle.blake2bp.specs.Params.{inRange}
 use Rattle.blake2bp.specs.State.{fresh, updated, hashed}
 use Rattle.blake2bp.specs.declared.state.State.{State}
-use Rattle.numbers.proofs.Picks.{refused}
+use Rattle.refusals.proofs.Picks.{refused}
 use Rattle.blake2bp.proofs.Cleaned.{Good}
 use Rattle.blake2bp.proofs.OneShot.{hashed-past, hashed-through, hashed-straight}
 use Rattle.blake2bp.proofs.Setters.{key-short}

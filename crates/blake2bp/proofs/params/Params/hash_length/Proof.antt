@@ -4,7 +4,7 @@ use mathlib.Core.Path.{sym, _∙_}
 use borrow.Author.Tests.{not-false}
 use native.Mathlib.Omega.{arith}
 use Rattle.hash.proofs.Digests.{digest-length-bounds}
-use Rattle.numbers.proofs.Picks.{passed, refused}
+use Rattle.refusals.proofs.Picks.{passed, refused}
 use Rattle.blake2bp.specs.Params.{answered}
 use borrow.Author.Needs.{needs}
 use Rattle.blake2bp.proofs.params.Params.hash_length.Statement.{statement}

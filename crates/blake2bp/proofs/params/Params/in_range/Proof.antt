@@ -1,7 +1,7 @@
 -- `blake2bp::params::Params::in_range` meets its contract.
 -- Assumes nothing.
 use mathlib.Core.Path.{refl}
-use Rattle.numbers.proofs.Picks.{and-passed, and-refused}
+use Rattle.refusals.proofs.Picks.{and-passed, and-refused}
 use Rattle.blake2bp.specs.Params.{inRange}
 use borrow.Author.Needs.{needs}
 use Rattle.blake2bp.proofs.params.Params.in_range.Statement.{statement}

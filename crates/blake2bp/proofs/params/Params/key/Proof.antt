@@ -4,8 +4,8 @@ use mathlib.Core.Path.{_∙_}
 use borrow.Author.Tests.{le-leb, lt-leb}
 use denote.Ref.{now}
 use lib.ListN.{length}
-use Rattle.numbers.specs.Numbers.{accepted}
-use Rattle.numbers.proofs.Picks.{passed, refused, holds, fails}
+use Rattle.refusals.specs.Numbers.{accepted}
+use Rattle.refusals.proofs.Picks.{passed, refused, holds, fails}
 use Rattle.blake2bp.specs.Params.{answered}
 use borrow.Author.Needs.{needs}
 use Rattle.blake2bp.proofs.params.Params.key.Statement.{statement}

@@ -2,9 +2,9 @@
 -- Assumes nothing.
 use mathlib.Core.Path.{sym, ap, _∙_}
 use borrow.Author.Tests.{not-false}
-use Rattle.numbers.specs.Numbers.{accepted, bad-record}
+use Rattle.refusals.specs.Numbers.{accepted, bad-record}
 use Rattle.blake2bp.proofs.Setters.{key-short}
-use Rattle.numbers.proofs.Picks.{passed, refused}
+use Rattle.refusals.proofs.Picks.{passed, refused}
 use Rattle.blake2bp.specs.State.{reads, opened}
 use borrow.Author.Needs.{needs}
 use Rattle.blake2bp.proofs.params.Params.to_state.Statement.{statement}

@@ -1,7 +1,7 @@
 -- `blake2bp::state::State::buffered` meets its contract.
 -- Assumes nothing.
 use mathlib.Core.Path.{refl}
-use Rattle.numbers.proofs.Picks.{passed, refused}
+use Rattle.refusals.proofs.Picks.{passed, refused}
 use Rattle.blake2bp.specs.State.{bufferedIn}
 use borrow.Author.Needs.{needs}
 use Rattle.blake2bp.proofs.state.State.buffered.Statement.{statement}

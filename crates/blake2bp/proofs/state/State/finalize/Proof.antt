@@ -5,16 +5,16 @@ use mathlib.Core.List.{List, map}
 use native.Mathlib.Nat.{sub-zero}
 use native.Mathlib.Omega.{arith}
 use lib.ListN.{length, take, length-take}
-use Rattle.numbers.specs.Numbers.{limit}
+use Rattle.refusals.specs.Numbers.{limit}
 use Rattle.laws_states.specs.Buffer.{pending}
 use Rattle.laws_states.proofs.Trees.{length-rooted}
 use Rattle.hash.proofs.Digests.{digest-length-is, made-hash}
 use Rattle.members.proofs.Ranges.{Kept, kept}
-use Rattle.numbers.proofs.Picks.{passed, refused}
+use Rattle.refusals.proofs.Picks.{passed, refused}
 use Rattle.definitions.specs.Family.{BLAKE2b}
 use Rattle.laws_states.specs.Leaves.{rooted}
-use Rattle.leaves.specs.Leaves.{wordsOf}
-use Rattle.leaves.specs.declared.leaves.Leaf.{Leaf}
+use Rattle.blake2bp_leaves.specs.Leaves.{wordsOf}
+use Rattle.blake2bp_leaves.specs.declared.leaves.Leaf.{Leaf}
 use Rattle.blake2bp.specs.State.{reads, finalized, keeper}
 use borrow.Author.Needs.{needs}
 use Rattle.blake2bp.proofs.state.State.finalize.Statement.{statement}

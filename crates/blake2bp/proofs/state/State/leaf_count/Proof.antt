@@ -1,7 +1,7 @@
 -- `blake2bp::state::State::leaf_count` meets its contract.
 -- Assumes nothing.
 use mathlib.Core.Path.{refl}
-use Rattle.numbers.proofs.Picks.{passed, refused}
+use Rattle.refusals.proofs.Picks.{passed, refused}
 use Rattle.blake2bp.specs.State.{leafCounted}
 use borrow.Author.Needs.{needs}
 use Rattle.blake2bp.proofs.state.State.leaf_count.Statement.{statement}

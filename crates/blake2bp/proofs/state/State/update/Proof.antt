@@ -5,10 +5,10 @@ use Prim.Native.Nat.{_+_, _≤_}
 use native.Mathlib.Omega.{arith}
 use borrow.Author.Tests.{le-leb, lt-leb}
 use lib.ListN.{length}
-use Rattle.numbers.specs.Numbers.{accepted, limit}
+use Rattle.refusals.specs.Numbers.{accepted, limit}
 use Rattle.blake2bp.specs.State.{total, pushed, reads, updated, keeper}
 use Rattle.members.proofs.Ranges.{Kept, kept}
-use Rattle.numbers.proofs.Picks.{passed, refused, holds, fails}
+use Rattle.refusals.proofs.Picks.{passed, refused, holds, fails}
 use Rattle.blake2bp.specs.declared.state.State.{State}
 use Rattle.members.proofs.Moves.{taken-long, taken-fill, taken-spill}
 use Rattle.blake2bp.proofs.States.{keeper-laws}

@@ -4,9 +4,9 @@ use mathlib.Core.Path.{_≡_, ap}
 use Prim.Native.Nat.{ℕ, _+_, _-_, _≤_}
 use native.Mathlib.Omega.{arith}
 use lib.ListN.{length, take, drop, length-take}
-use Rattle.numbers.specs.Numbers.{limit}
-use Rattle.numbers.proofs.Pieces.{inside}
-use Rattle.job.proofs.Works.{in-range}
+use Rattle.refusals.specs.Numbers.{limit}
+use Rattle.refusals.proofs.Pieces.{inside}
+use Rattle.many_work.proofs.Works.{in-range}
 use Rattle.many.proofs.Jobs.{accepted-range, accepted-inside, over-finished, over-unfinished}
 use borrow.Author.Needs.{needs}
 use Rattle.many.proofs.placed.HashManyJob.run_over.Statement.{statement}

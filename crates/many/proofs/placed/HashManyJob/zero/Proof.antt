@@ -1,7 +1,7 @@
 -- `many::placed::HashManyJob::zero` meets its contract.
 -- Assumes nothing.
 use mathlib.Core.Path.{ap}
-use Rattle.job.specs.declared.work.Work.{Work}
+use Rattle.many_work.specs.declared.work.Work.{Work}
 use Rattle.many.specs.Job.{placed}
 use borrow.Author.Needs.{needs}
 use Rattle.many.proofs.placed.HashManyJob.zero.Statement.{statement}

@@ -222,5 +222,5 @@ lend-spec 𝓤 H 𝓜 𝓖 𝓡 =
     (λ κs qs bounds b g are. needs 𝓤 _ _ (λ l.
     walk 𝓤 H (𝓖 .A) (givenOf 𝓤 H 𝓜 𝓖) (𝓜 .mem) (𝓡 .run) (κs .0) (qs .0) (b .0) (b .1 .0) (b .1 .1 .0) (b .1 .1 .1 .0) (are .0) (are .1 .0) (are .1 .1 .0 .1) l
     (tablesOf 𝓤 H 𝓜 (tables 𝓤 H 𝓜 𝓡 code.env))
-    (cited 𝓤 H (contractOf 𝓤 H (𝓖 .A) many.ended (many.clauses 𝓤 H (𝓖 .A) (𝓜 .mem) (𝓡 .run))) 𝓜 𝓡 code.env many-def.name many-def.routine code.calls-lent·update-many (many-thm.met 𝓤 H 𝓜 𝓖 𝓡))
+    (cited 𝓤 H (contractOf 𝓤 H (𝓖 .A) many.ended (many.clauses 𝓤 H (𝓖 .A) (𝓜 .mem) (𝓡 .run))) 𝓜 𝓡 code.env many-def.name many-def.routine code.calls-bank-lent·update-many (many-thm.met 𝓤 H 𝓜 𝓖 𝓡))
     (are .1 .1 .1 .0)))

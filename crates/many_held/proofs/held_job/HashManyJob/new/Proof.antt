@@ -116,4 +116,4 @@ new-spec 𝓤 H 𝓜 𝓖 𝓡 =
     (λ κs. (LL.vals P.the-type P′.the-laws, (slice-vals, tt))) (λ κs. (LL.tells P.the-type P′.the-laws, (shr-slice-tells (named 0) (κs .0) u8, tt)))
     (λ κs qs bounds a g are. via 𝓤 _ (fst∗ 𝓤 _ (emp 𝓤))
     (walk 𝓤 H (𝓖 .A) (givenOf 𝓤 H 𝓜 𝓖) (𝓜 .mem) (𝓡 .run) (κs .0) (qs .0) (a .0) (a .1 .0) (are .0) (are .1 .0) (tablesOf 𝓤 H 𝓜 (tables 𝓤 H 𝓜 𝓡 code.env))
-    (cited 𝓤 H (Make 𝓤 H (𝓖 .A) (𝓜 .mem) (𝓡 .run)) 𝓜 𝓡 code.env #make make-def.routine code.calls-held·steps·make (make-thm.met 𝓤 H 𝓜 𝓖 𝓡))))
+    (cited 𝓤 H (Make 𝓤 H (𝓖 .A) (𝓜 .mem) (𝓡 .run)) 𝓜 𝓡 code.env #make make-def.routine code.calls-many-held·steps·make (make-thm.met 𝓤 H 𝓜 𝓖 𝓡))))

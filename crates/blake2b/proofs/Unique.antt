@@ -1,7 +1,7 @@
 -- Two answers that meet a public promise are equal, for every public function: one law, cited of the contract itself. A weaker promise
 -- would be refused here. Assumes nothing.
 use mathlib.Core.Path.{_≡_}
-use Rattle.hash.proofs.Unique.{unique}
+use Rattle.hash.proofs.Unique.{Unique, unique}
 use Rattle.blake2b.proofs.params.Params.new.Reads as params-new
 use Rattle.blake2b.proofs.params.Params.in_range.Reads as params-in-range
 use Rattle.blake2b.proofs.params.Params.hash_length.Reads as params-hash-length
@@ -31,86 +31,86 @@ use Rattle.blake2b_state.proofs.state.State.set_last_node.Reads as state-set-la
 use Rattle.blake2b_state.proofs.state.State.count.Reads as state-count
 use Rattle.blake2b.proofs.one_shot.blake2b.Reads as blake2b
 
-pub params-new-unique : (κs : _) (args : _) (r q : _) (exit : _) → params-new.Post κs args r exit → params-new.Post κs args q exit → r ≡ q
+pub params-new-unique : Unique params-new.Post
 params-new-unique κs args r q exit e f = unique e f
 
-pub params-in-range-unique : (κs : _) (args : _) (r q : _) (exit : _) → params-in-range.Post κs args r exit → params-in-range.Post κs args q exit → r ≡ q
+pub params-in-range-unique : Unique params-in-range.Post
 params-in-range-unique κs args r q exit e f = unique e f
 
-pub params-hash-length-unique : (κs : _) (args : _) (r q : _) (exit : _) → params-hash-length.Post κs args r exit → params-hash-length.Post κs args q exit → r ≡ q
+pub params-hash-length-unique : Unique params-hash-length.Post
 params-hash-length-unique κs args r q exit e f = unique e f
 
-pub params-key-unique : (κs : _) (args : _) (r q : _) (exit : _) → params-key.Post κs args r exit → params-key.Post κs args q exit → r ≡ q
+pub params-key-unique : Unique params-key.Post
 params-key-unique κs args r q exit e f = unique e f
 
-pub params-salt-unique : (κs : _) (args : _) (r q : _) (exit : _) → params-salt.Post κs args r exit → params-salt.Post κs args q exit → r ≡ q
+pub params-salt-unique : Unique params-salt.Post
 params-salt-unique κs args r q exit e f = unique e f
 
-pub params-personal-unique : (κs : _) (args : _) (r q : _) (exit : _) → params-personal.Post κs args r exit → params-personal.Post κs args q exit → r ≡ q
+pub params-personal-unique : Unique params-personal.Post
 params-personal-unique κs args r q exit e f = unique e f
 
-pub params-fanout-unique : (κs : _) (args : _) (r q : _) (exit : _) → params-fanout.Post κs args r exit → params-fanout.Post κs args q exit → r ≡ q
+pub params-fanout-unique : Unique params-fanout.Post
 params-fanout-unique κs args r q exit e f = unique e f
 
-pub params-max-depth-unique : (κs : _) (args : _) (r q : _) (exit : _) → params-max-depth.Post κs args r exit → params-max-depth.Post κs args q exit → r ≡ q
+pub params-max-depth-unique : Unique params-max-depth.Post
 params-max-depth-unique κs args r q exit e f = unique e f
 
-pub params-max-leaf-length-unique : (κs : _) (args : _) (r q : _) (exit : _) → params-max-leaf-length.Post κs args r exit → params-max-leaf-length.Post κs args q exit → r ≡ q
+pub params-max-leaf-length-unique : Unique params-max-leaf-length.Post
 params-max-leaf-length-unique κs args r q exit e f = unique e f
 
-pub params-node-offset-unique : (κs : _) (args : _) (r q : _) (exit : _) → params-node-offset.Post κs args r exit → params-node-offset.Post κs args q exit → r ≡ q
+pub params-node-offset-unique : Unique params-node-offset.Post
 params-node-offset-unique κs args r q exit e f = unique e f
 
-pub params-node-depth-unique : (κs : _) (args : _) (r q : _) (exit : _) → params-node-depth.Post κs args r exit → params-node-depth.Post κs args q exit → r ≡ q
+pub params-node-depth-unique : Unique params-node-depth.Post
 params-node-depth-unique κs args r q exit e f = unique e f
 
-pub params-inner-hash-length-unique : (κs : _) (args : _) (r q : _) (exit : _) → params-inner-hash-length.Post κs args r exit → params-inner-hash-length.Post κs args q exit → r ≡ q
+pub params-inner-hash-length-unique : Unique params-inner-hash-length.Post
 params-inner-hash-length-unique κs args r q exit e f = unique e f
 
-pub params-last-node-unique : (κs : _) (args : _) (r q : _) (exit : _) → params-last-node.Post κs args r exit → params-last-node.Post κs args q exit → r ≡ q
+pub params-last-node-unique : Unique params-last-node.Post
 params-last-node-unique κs args r q exit e f = unique e f
 
-pub params-is-keyed-unique : (κs : _) (args : _) (r q : _) (exit : _) → params-is-keyed.Post κs args r exit → params-is-keyed.Post κs args q exit → r ≡ q
+pub params-is-keyed-unique : Unique params-is-keyed.Post
 params-is-keyed-unique κs args r q exit e f = unique e f
 
-pub params-key-block-unique : (κs : _) (args : _) (r q : _) (exit : _) → params-key-block.Post κs args r exit → params-key-block.Post κs args q exit → r ≡ q
+pub params-key-block-unique : Unique params-key-block.Post
 params-key-block-unique κs args r q exit e f = unique e f
 
-pub params-digest-length-unique : (κs : _) (args : _) (r q : _) (exit : _) → params-digest-length.Post κs args r exit → params-digest-length.Post κs args q exit → r ≡ q
+pub params-digest-length-unique : Unique params-digest-length.Post
 params-digest-length-unique κs args r q exit e f = unique e f
 
-pub params-is-last-node-unique : (κs : _) (args : _) (r q : _) (exit : _) → params-is-last-node.Post κs args r exit → params-is-last-node.Post κs args q exit → r ≡ q
+pub params-is-last-node-unique : Unique params-is-last-node.Post
 params-is-last-node-unique κs args r q exit e f = unique e f
 
-pub params-to-words-unique : (κs : _) (args : _) (r q : _) (exit : _) → params-to-words.Post κs args r exit → params-to-words.Post κs args q exit → r ≡ q
+pub params-to-words-unique : Unique params-to-words.Post
 params-to-words-unique κs args r q exit e f = unique e f
 
-pub params-to-state-unique : (κs : _) (args : _) (r q : _) (exit : _) → params-to-state.Post κs args r exit → params-to-state.Post κs args q exit → r ≡ q
+pub params-to-state-unique : Unique params-to-state.Post
 params-to-state-unique κs args r q exit e f = unique e f
 
-pub params-hash-unique : (κs : _) (args : _) (r q : _) (exit : _) → params-hash.Post κs args r exit → params-hash.Post κs args q exit → r ≡ q
+pub params-hash-unique : Unique params-hash.Post
 params-hash-unique κs args r q exit e f = unique e f
 
-pub state-new-unique : (κs : _) (args : _) (r q : _) (exit : _) → state-new.Post κs args r exit → state-new.Post κs args q exit → r ≡ q
+pub state-new-unique : Unique state-new.Post
 state-new-unique κs args r q exit e f = unique e f
 
-pub state-zero-unique : (κs : _) (args : _) (r q : _) (exit : _) → state-zero.Post κs args r exit → state-zero.Post κs args q exit → r ≡ q
+pub state-zero-unique : Unique state-zero.Post
 state-zero-unique κs args r q exit e f = unique e f
 
-pub state-in-range-unique : (κs : _) (args : _) (r q : _) (exit : _) → state-in-range.Post κs args r exit → state-in-range.Post κs args q exit → r ≡ q
+pub state-in-range-unique : Unique state-in-range.Post
 state-in-range-unique κs args r q exit e f = unique e f
 
-pub state-update-unique : (κs : _) (args : _) (r q : _) (exit : _) → state-update.Post κs args r exit → state-update.Post κs args q exit → r ≡ q
+pub state-update-unique : Unique state-update.Post
 state-update-unique κs args r q exit e f = unique e f
 
-pub state-finalize-unique : (κs : _) (args : _) (r q : _) (exit : _) → state-finalize.Post κs args r exit → state-finalize.Post κs args q exit → r ≡ q
+pub state-finalize-unique : Unique state-finalize.Post
 state-finalize-unique κs args r q exit e f = unique e f
 
-pub state-set-last-node-unique : (κs : _) (args : _) (r q : _) (exit : _) → state-set-last-node.Post κs args r exit → state-set-last-node.Post κs args q exit → r ≡ q
+pub state-set-last-node-unique : Unique state-set-last-node.Post
 state-set-last-node-unique κs args r q exit e f = unique e f
 
-pub state-count-unique : (κs : _) (args : _) (r q : _) (exit : _) → state-count.Post κs args r exit → state-count.Post κs args q exit → r ≡ q
+pub state-count-unique : Unique state-count.Post
 state-count-unique κs args r q exit e f = unique e f
 
-pub blake2b-unique : (κs : _) (args : _) (r q : _) (exit : _) → blake2b.Post κs args r exit → blake2b.Post κs args q exit → r ≡ q
+pub blake2b-unique : Unique blake2b.Post
 blake2b-unique κs args r q exit e f = unique e f

@@ -1,7 +1,7 @@
 -- Two answers that meet a public promise are equal, for every public function: one law, cited of the contract itself. A weaker
 -- promise would be refused here. Assumes nothing.
 use mathlib.Core.Path.{_≡_}
-use Rattle.hash.proofs.Unique.{unique}
+use Rattle.hash.proofs.Unique.{Unique, unique}
 use Rattle.blake2bp.proofs.params.Params.new.Reads as params-new
 use Rattle.blake2bp.proofs.params.Params.in_range.Reads as params-in-range
 use Rattle.blake2bp.proofs.params.Params.hash_length.Reads as params-hash-length
@@ -18,47 +18,47 @@ use Rattle.blake2bp.proofs.state.State.leaf_count.Reads as state-leaf-c
 use Rattle.blake2bp.proofs.state.State.buffered.Reads as state-buffered
 use Rattle.blake2bp.proofs.one_shot.blake2bp.Reads as blake2bp
 
-pub params-new-unique : (κs : _) (args : _) (r q : _) (exit : _) → params-new.Post κs args r exit → params-new.Post κs args q exit → r ≡ q
+pub params-new-unique : Unique params-new.Post
 params-new-unique κs args r q exit e f = unique e f
 
-pub params-in-range-unique : (κs : _) (args : _) (r q : _) (exit : _) → params-in-range.Post κs args r exit → params-in-range.Post κs args q exit → r ≡ q
+pub params-in-range-unique : Unique params-in-range.Post
 params-in-range-unique κs args r q exit e f = unique e f
 
-pub params-hash-length-unique : (κs : _) (args : _) (r q : _) (exit : _) → params-hash-length.Post κs args r exit → params-hash-length.Post κs args q exit → r ≡ q
+pub params-hash-length-unique : Unique params-hash-length.Post
 params-hash-length-unique κs args r q exit e f = unique e f
 
-pub params-key-unique : (κs : _) (args : _) (r q : _) (exit : _) → params-key.Post κs args r exit → params-key.Post κs args q exit → r ≡ q
+pub params-key-unique : Unique params-key.Post
 params-key-unique κs args r q exit e f = unique e f
 
-pub params-to-state-unique : (κs : _) (args : _) (r q : _) (exit : _) → params-to-state.Post κs args r exit → params-to-state.Post κs args q exit → r ≡ q
+pub params-to-state-unique : Unique params-to-state.Post
 params-to-state-unique κs args r q exit e f = unique e f
 
-pub params-hash-unique : (κs : _) (args : _) (r q : _) (exit : _) → params-hash.Post κs args r exit → params-hash.Post κs args q exit → r ≡ q
+pub params-hash-unique : Unique params-hash.Post
 params-hash-unique κs args r q exit e f = unique e f
 
-pub state-new-unique : (κs : _) (args : _) (r q : _) (exit : _) → state-new.Post κs args r exit → state-new.Post κs args q exit → r ≡ q
+pub state-new-unique : Unique state-new.Post
 state-new-unique κs args r q exit e f = unique e f
 
-pub state-zero-unique : (κs : _) (args : _) (r q : _) (exit : _) → state-zero.Post κs args r exit → state-zero.Post κs args q exit → r ≡ q
+pub state-zero-unique : Unique state-zero.Post
 state-zero-unique κs args r q exit e f = unique e f
 
-pub state-in-range-unique : (κs : _) (args : _) (r q : _) (exit : _) → state-in-range.Post κs args r exit → state-in-range.Post κs args q exit → r ≡ q
+pub state-in-range-unique : Unique state-in-range.Post
 state-in-range-unique κs args r q exit e f = unique e f
 
-pub state-update-unique : (κs : _) (args : _) (r q : _) (exit : _) → state-update.Post κs args r exit → state-update.Post κs args q exit → r ≡ q
+pub state-update-unique : Unique state-update.Post
 state-update-unique κs args r q exit e f = unique e f
 
-pub state-finalize-unique : (κs : _) (args : _) (r q : _) (exit : _) → state-finalize.Post κs args r exit → state-finalize.Post κs args q exit → r ≡ q
+pub state-finalize-unique : Unique state-finalize.Post
 state-finalize-unique κs args r q exit e f = unique e f
 
-pub state-count-unique : (κs : _) (args : _) (r q : _) (exit : _) → state-count.Post κs args r exit → state-count.Post κs args q exit → r ≡ q
+pub state-count-unique : Unique state-count.Post
 state-count-unique κs args r q exit e f = unique e f
 
-pub state-leaf-count-unique : (κs : _) (args : _) (r q : _) (exit : _) → state-leaf-count.Post κs args r exit → state-leaf-count.Post κs args q exit → r ≡ q
+pub state-leaf-count-unique : Unique state-leaf-count.Post
 state-leaf-count-unique κs args r q exit e f = unique e f
 
-pub state-buffered-unique : (κs : _) (args : _) (r q : _) (exit : _) → state-buffered.Post κs args r exit → state-buffered.Post κs args q exit → r ≡ q
+pub state-buffered-unique : Unique state-buffered.Post
 state-buffered-unique κs args r q exit e f = unique e f
 
-pub blake2bp-unique : (κs : _) (args : _) (r q : _) (exit : _) → blake2bp.Post κs args r exit → blake2bp.Post κs args q exit → r ≡ q
+pub blake2bp-unique : Unique blake2bp.Post
 blake2bp-unique κs args r q exit e f = unique e f

@@ -17,32 +17,36 @@ use Rattle.hash.proofs.Hash.written_hex.Reads as hash-written-hex
 use Rattle.hash.proofs.HashAnswer.refused.Reads as refused
 use Rattle.hash.proofs.output.write.Reads as write
 
+-- a promise that no two answers meet
+abbrev pub Unique : {K : Type 0} {A : K → Type 0} {R : (k : K) → A k → Type 0} {E : K → Type 0} → ((k : K) (a : A k) → R k a → E k → Type 0) → Type 0
+Unique {K} {A} {R} {E} Post = (κs : K) (args : A κs) (r q : R κs args) (exit : E κs) → Post κs args r exit → Post κs args q exit → r ≡ q
+
 -- what a promise `r ≡ answer` settles
 pub unique : {A : Type 0} {a r q : A} → r ≡ a → q ≡ a → r ≡ q
 unique e f = e ∙ sym f
 
-pub is-digest-length-unique : (κs : _) (args : _) (r q : _) (exit : _) → is-digest-length.Post κs args r exit → is-digest-length.Post κs args q exit → r ≡ q
+pub is-digest-length-unique : Unique is-digest-length.Post
 is-digest-length-unique κs args r q exit e f = unique e f
 
-pub hash-zero-unique : (κs : _) (args : _) (r q : _) (exit : _) → hash-zero.Post κs args r exit → hash-zero.Post κs args q exit → r ≡ q
+pub hash-zero-unique : Unique hash-zero.Post
 hash-zero-unique κs args r q exit e f = unique e f
 
-pub hash-from-state-unique : (κs : _) (args : _) (r q : _) (exit : _) → hash-from-state.Post κs args r exit → hash-from-state.Post κs args q exit → r ≡ q
+pub hash-from-state-unique : Unique hash-from-state.Post
 hash-from-state-unique κs args r q exit e f = unique e f
 
-pub hash-from-bytes-unique : (κs : _) (args : _) (r q : _) (exit : _) → hash-from-bytes.Post κs args r exit → hash-from-bytes.Post κs args q exit → r ≡ q
+pub hash-from-bytes-unique : Unique hash-from-bytes.Post
 hash-from-bytes-unique κs args r q exit e f = unique e f
 
-pub hash-in-range-unique : (κs : _) (args : _) (r q : _) (exit : _) → hash-in-range.Post κs args r exit → hash-in-range.Post κs args q exit → r ≡ q
+pub hash-in-range-unique : Unique hash-in-range.Post
 hash-in-range-unique κs args r q exit e f = unique e f
 
-pub hash-len-unique : (κs : _) (args : _) (r q : _) (exit : _) → hash-len.Post κs args r exit → hash-len.Post κs args q exit → r ≡ q
+pub hash-len-unique : Unique hash-len.Post
 hash-len-unique κs args r q exit e f = unique e f
 
-pub hash-equals-unique : (κs : _) (args : _) (r q : _) (exit : _) → hash-equals.Post κs args r exit → hash-equals.Post κs args q exit → r ≡ q
+pub hash-equals-unique : Unique hash-equals.Post
 hash-equals-unique κs args r q exit e f = unique e f
 
-pub hash-equals-bytes-unique : (κs : _) (args : _) (r q : _) (exit : _) → hash-equals-bytes.Post κs args r exit → hash-equals-bytes.Post κs args q exit → r ≡ q
+pub hash-equals-bytes-unique : Unique hash-equals-bytes.Post
 hash-equals-bytes-unique κs args r q exit e f = unique e f
 
 pub hash-write-bytes-unique : (κs : _) (args : _) (r q : _) (x y : _) → hash-write-bytes.Post κs args r x → hash-write-bytes.Post κs args q y → (r ≡ q) × (now (x .1 .0) ≡ now (y .1 .0))
@@ -57,7 +61,7 @@ hash-written-bytes-unique κs args r q exit e f = unique e f
 pub hash-written-hex-unique : (κs : _) (args : _) (r q : _) (exit : _) → hash-written-hex.Post κs args r exit → hash-written-hex.Post κs args q exit → now r ≡ now q
 hash-written-hex-unique κs args r q exit e f = unique e f
 
-pub refused-unique : (κs : _) (args : _) (r q : _) (exit : _) → refused.Post κs args r exit → refused.Post κs args q exit → r ≡ q
+pub refused-unique : Unique refused.Post
 refused-unique κs args r q exit e f = unique e f
 
 pub write-unique : (κs : _) (args : _) (r q : _) (x y : _) → write.Post κs args r x → write.Post κs args q y → (r ≡ q) × (now (x .1 .0) ≡ now (y .1 .0))

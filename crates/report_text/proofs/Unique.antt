@@ -2,23 +2,23 @@
 -- Assumes nothing.
 use mathlib.Core.Path.{_≡_}
 use denote.Ref.{now}
-use Rattle.hash.proofs.Unique.{unique}
+use Rattle.hash.proofs.Unique.{Unique, unique}
 use Rattle.report_text.proofs.report.Report.new.Reads as report-new
 use Rattle.report_text.proofs.report.Report.take.Reads as report-take
 use Rattle.report_text.proofs.report.Report.fail.Reads as report-fail
 use Rattle.report_text.proofs.report.Report.read.Reads as report-read
 use Rattle.report_text.proofs.report.Report.text.Reads as report-text
 
-pub report-new-unique : (κs : _) (args : _) (r q : _) (exit : _) → report-new.Post κs args r exit → report-new.Post κs args q exit → r ≡ q
+pub report-new-unique : Unique report-new.Post
 report-new-unique κs args r q exit e f = unique e f
 
-pub report-take-unique : (κs : _) (args : _) (r q : _) (exit : _) → report-take.Post κs args r exit → report-take.Post κs args q exit → r ≡ q
+pub report-take-unique : Unique report-take.Post
 report-take-unique κs args r q exit e f = unique e f
 
-pub report-fail-unique : (κs : _) (args : _) (r q : _) (exit : _) → report-fail.Post κs args r exit → report-fail.Post κs args q exit → r ≡ q
+pub report-fail-unique : Unique report-fail.Post
 report-fail-unique κs args r q exit e f = unique e f
 
-pub report-read-unique : (κs : _) (args : _) (r q : _) (exit : _) → report-read.Post κs args r exit → report-read.Post κs args q exit → r ≡ q
+pub report-read-unique : Unique report-read.Post
 report-read-unique κs args r q exit e f = unique e f
 
 pub report-text-unique : (κs : _) (args : _) (r q : _) (x y : _) → report-text.Post κs args r x → report-text.Post κs args q y → (r ≡ q) × (now (x .1 .0) ≡ now (y .1 .0))

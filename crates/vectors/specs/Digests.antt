@@ -50,7 +50,8 @@ vectors-b =
     (blake2 BLAKE2b 64 [] (from 0 129) is 0xf59711d44a031d5f97a9413c065d1e614c417ede998590325f49bad2fd444d3e4418be19aec4e11449ac1a57207898bc57d76a1bcf3566292c20c683a5c4648f)
     ∷ (blake2 BLAKE2b 64 (from 0 64) (from 0 255) is 0x142709d62e28fcccd0af97fad0f8465b971e82201dc51070faa0372aa43e92484be1c1e73ba10906d5d1853db6a4106e0a7bf9800d373d6dee2d46d62ef2a461)
     ∷ (hash BLAKE2b (salted 16 8) false (from 0 16) abc is 0x9f034ee26e0c38784dcb4f01243de99778221aeb)
-    ∷ (hash BLAKE2b (inner 64 0x05060708090a0b0c 16 8) true [] abc is 0x488853bf0f02d481f27d7dff05ac5f637d86ca0408e8c5072f97bf03b28eeb301f27f307c6d287e4471c8ff42259d8bd69eea5d83ac9cfb485025b7e837f55c3)
+    ∷ (hash BLAKE2b (inner 64 0x05060708090a0b0c 16 8) true [] abc
+    is 0x488853bf0f02d481f27d7dff05ac5f637d86ca0408e8c5072f97bf03b28eeb301f27f307c6d287e4471c8ff42259d8bd69eea5d83ac9cfb485025b7e837f55c3)
     ∷ (called BLAKE2b false 5 131 is 0xcf23a404f047ca07ec2f65104ab3a486a878d49dad9dac33c0491bd510153e2af187c97965b12ce33bc70a3d7ec838479195ec87953cb6da40cecadf5e5c07a0)
     ∷ (BLAKE2bp 64 (from 0 64) (from 0 255) is 0x96fbcbb60bd313b8845033e5bc058a38027438572d7e7957f3684f6268aadd3ad08d21767ed6878685331ba98571487e12470aad669326716e46667f69f8d7e8)
     ∷ []
@@ -83,5 +84,6 @@ unfolding results published vectors-s SIGMA G rotr round roundsTo ones F start w
 agree-s = refl
 
 pub agree-rows : results vectors-rows ≡ published vectors-rows
-unfolding results published vectors-rows SIGMA G rotr round roundsTo ones F start words parameterBlock pad keyed calls compress stateBytes untruncated hash flatMap share leafData parameters leaf parallel
+unfolding results published vectors-rows SIGMA G rotr round roundsTo ones F start words parameterBlock pad keyed calls compress stateBytes untruncated hash flatMap
+    share leafData parameters leaf parallel
 agree-rows = refl

@@ -70,11 +70,11 @@ module _ {X : Type 0} (kind : Kind X) (steady : Steady kind) (fine : (x : X) →
       where
         split : (q : Bool) → eqb (own-fault (goodAsk ask) k) accepted ≡ q
             → (step kind n most xs (on k ask) .answer ≡ own k (at kind xs k) ask .answer) × (at kind (step kind n most xs (on k ask) .slots) k ≡ own k (at kind xs k) ask .slot)
-        split true e = (
-          rw (fault-own xs (goodAsk ask) k, e),
-          rw (fault-own xs (goodAsk ask) k, e) (getD-set-same xs k (reply kind (at kind xs k) ask .slot) (kind .closed) (rw l (no-fault-means kind n xs (goodAsk ask) k (fault-own xs (goodAsk ask) k ∙ eqb-true (own-fault (goodAsk ask) k) accepted e) .2))),
-        )
-        split false e = (rw (fault-own xs (goodAsk ask) k, e), rw (fault-own xs (goodAsk ask) k, e))
+        split true e =
+            let same = fault-own xs (goodAsk ask) k in
+            let there = no-fault-means kind n xs (goodAsk ask) k (same ∙ eqb-true (own-fault (goodAsk ask) k) accepted e) .2 in
+            (rw (same, e), rw (same, e) (getD-set-same xs k (reply kind (at kind xs k) ask .slot) (kind .closed) (rw l there)))
+        split false e = let same = fault-own xs (goodAsk ask) k in (rw (same, e), rw (same, e))
 
     -- of an accepted batch, the records of the slot k by themselves are accepted too, and leave it the same
     abbrev Same : ℕ → Result X → Result X → Type 0
@@ -98,8 +98,11 @@ module _ {X : Type 0} (kind : Kind X) (steady : Steady kind) (fine : (x : X) →
         let same-slot : p .slot ≡ k = eqb-true (p .slot) k h in
         let same : at kind vs (p .slot) ≡ at kind ys (p .slot) = ap (at kind vs) same-slot ∙ sym e ∙ ap (at kind ys) (sym same-slot) in
         let fed-same : fed kind (at kind vs (p .slot)) p d ≡ r = ap (λ (x : X). fed kind x p d) same in
-        let on-us = goes-on kind n us vs j p (ofSlot k ps) d (t .0) (ap (λ (q : Reply X). eqb (q .answer .number) accepted) fed-same ∙ t .1) ∙ ap (λ (q : Reply X). batch kind n us (set vs (p .slot) (q .slot)) (suc j) (ofSlot k ps) d) fed-same in
-        let at-k : (ws : List X) → length ws ≡ n → at kind (set ws (p .slot) (r .slot)) k ≡ r .slot = λ ws lw. ap (at kind (set ws (p .slot) (r .slot))) (sym same-slot) ∙ getD-set-same ws (p .slot) (r .slot) (kind .closed) (rw lw there) in
+        let on-us =
+        goes-on kind n us vs j p (ofSlot k ps) d (t .0) (ap (λ (q : Reply X). eqb (q .answer .number) accepted) fed-same ∙ t .1)
+        ∙ ap (λ (q : Reply X). batch kind n us (set vs (p .slot) (q .slot)) (suc j) (ofSlot k ps) d) fed-same in
+        let at-k : (ws : List X) → length ws ≡ n → at kind (set ws (p .slot) (r .slot)) k ≡ r .slot = λ ws lw.
+        ap (at kind (set ws (p .slot) (r .slot))) (sym same-slot) ∙ getD-set-same ws (p .slot) (r .slot) (kind .closed) (rw lw there) in
         rw on-us (rest (set vs (p .slot) (r .slot)) (suc j) (length-set vs (p .slot) (r .slot) ∙ lv) (at-k ys ly ∙ sym (at-k vs lv))))
         (λ h. rest vs j lv (other-slot kind n ys (p .slot) k (r .slot) h ∙ e)))
 

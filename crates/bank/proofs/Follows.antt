@@ -13,7 +13,8 @@ use Rattle.refusals.proofs.Picks as picks
 use Rattle.members.specs.Row.{Answer, numbered}
 use Rattle.blake2b.specs.Params.{inRange, Clean}
 use Rattle.blake2b.specs.declared.params.Params.{Params}
-use Rattle.bank.specs.Rules.{Ask, opening, update, digest, digest-to, count, close, Call, on, update-many, Reply, Result, Kind, written, openTests, placeFault, piece, every, goodAsk, updated, done, reply, fed, at, fault, batch, step, answers, after}
+use Rattle.bank.specs.Rules.{Ask, opening, update, digest, digest-to, count, close, Call, on, update-many, Reply, Result, Kind}
+use Rattle.bank.specs.Rules.{written, openTests, placeFault, piece, every, goodAsk, updated, done, reply, fed, at, fault, batch, step, answers, after}
 use Rattle.bank.specs.Made.{MadeAsk, Made, All}
 use Rattle.bank.specs.declared.piece.Piece.{Piece}
 use Rattle.bank.proofs.Cases.{both, either}
@@ -162,7 +163,9 @@ module _ {X Y : Type 0} (a : Kind X) (b : Kind Y) (f : X → Y) (Valid : X → T
       unfolding step AllKept
       step-valid xs (on k ask) valid made =
           either AllKept (eqb (fault a n xs (goodAsk ask) k) accepted) _ _
-          (λ e. all-set Valid xs k (reply a (at a xs k) ask .slot) valid (reply-valid (at a xs k) (at-valid xs k valid) ask made (no-fault-means a n xs (goodAsk ask) k (eqb-true (fault a n xs (goodAsk ask) k) accepted e) .1)))
+          (λ e.
+          let may = no-fault-means a n xs (goodAsk ask) k (eqb-true (fault a n xs (goodAsk ask) k) accepted e) .1 in
+          all-set Valid xs k (reply a (at a xs k) ask .slot) valid (reply-valid (at a xs k) (at-valid xs k valid) ask made may))
           (λ e. valid)
       step-valid xs (update-many ps used d) valid made =
           either AllKept (every (a .good) xs) _ _ (λ e. either AllKept (leb used most) _ _ (λ h. batch-valid xs xs 0 (take used ps) d valid valid) (λ h. valid)) (λ e. valid)

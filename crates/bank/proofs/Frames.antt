@@ -10,7 +10,8 @@ use lib.ListN.{set, take}
 use lib.Seq.{set-getD, getD-set-other}
 use Rattle.refusals.specs.Numbers.{accepted}
 use Rattle.refusals.proofs.Picks.{All, tested-keeps}
-use Rattle.bank.specs.Rules.{Ask, opening, update, digest, digest-to, count, close, Call, on, update-many, Reply, Result, Kind, openTests, every, goodAsk, done, reply, fed, at, fault, batch, step, after}
+use Rattle.bank.specs.Rules.{Ask, opening, update, digest, digest-to, count, close, Call, on, update-many, Reply, Result, Kind}
+use Rattle.bank.specs.Rules.{openTests, every, goodAsk, done, reply, fed, at, fault, batch, step, after}
 use Rattle.bank.specs.Apart.{among, names, Spared}
 use Rattle.bank.specs.declared.piece.Piece.{Piece}
 use Rattle.bank.proofs.Cases.{either}

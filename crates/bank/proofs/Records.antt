@@ -10,7 +10,7 @@ use borrow.Author.Tests.{ltb-true, eqb-false}
 use lib.Dec.{ltb, eqb}
 use lib.ListN.{length, getD, set, take}
 use Rattle.refusals.specs.Numbers.{accepted, slot-number, bad-record}
-use Rattle.bank.specs.Rules.{Result, Kind, every, fed, at, fault, batch}
+use Rattle.bank.specs.Rules.{Reply, Result, Kind, every, fed, at, fault, batch}
 use Rattle.bank.specs.declared.piece.Piece.{Piece}
 use Rattle.bank.proofs.Cases.{either}
 
@@ -98,15 +98,22 @@ module _ {X : Type 0} (kind : Kind X) (n : ℕ) where
 
   pub first-bad-decides : (xs ys : List X) (i : ℕ) (ps : List Piece) (d : List ℕ) → (batch kind n xs ys i ps d .answer .number ≡ accepted → ⊥) → Decided xs ys i ps d
   first-bad-decides xs ys i [] d h = absurd (h (unfold batch in refl))
-  first-bad-decides xs ys i (p ∷ ps) d h =
-      split (first-bad-decides xs (set ys (p .slot) (fed kind (at kind ys (p .slot)) p d .slot)) (suc i) ps d) (ltb (p .slot) n) (eqb (fed kind (at kind ys (p .slot)) p d .answer .number) accepted) refl refl
+  first-bad-decides xs ys i (p ∷ ps) d h = split (first-bad-decides xs zs (suc i) ps d) (ltb (p .slot) n) (eqb (fed-first .answer .number) accepted) refl refl
     where
-      split : ((batch kind n xs (set ys (p .slot) (fed kind (at kind ys (p .slot)) p d .slot)) (suc i) ps d .answer .number ≡ accepted → ⊥) → Decided xs (set ys (p .slot) (fed kind (at kind ys (p .slot)) p d .slot)) (suc i) ps d)
-          → (q r : Bool) → ltb (p .slot) n ≡ q → eqb (fed kind (at kind ys (p .slot)) p d .answer .number) accepted ≡ r → Decided xs ys i (p ∷ ps) d
+      fed-first : Reply X
+      fed-first = fed kind (at kind ys (p .slot)) p d
+
+      zs : List X
+      zs = set ys (p .slot) (fed-first .slot)
+
+      split : ((batch kind n xs zs (suc i) ps d .answer .number ≡ accepted → ⊥) → Decided xs zs (suc i) ps d)
+          → (q r : Bool) → ltb (p .slot) n ≡ q → eqb (fed-first .answer .number) accepted ≡ r → Decided xs ys i (p ∷ ps) d
       split rest true true e f =
-          behind xs ys (set ys (p .slot) (fed kind (at kind ys (p .slot)) p d .slot)) i p ps d (goes-on xs ys i p ps d e f) (λ qs. goes-on xs ys i p qs d e f)
-          (rest (λ z. h (ap (λ (b : Result X). b .answer .number) (goes-on xs ys i p ps d e f) ∙ z)))
+          let on = goes-on xs ys i p ps d e f in
+          behind xs ys zs i p ps d on (λ qs. goes-on xs ys i p qs d e f) (rest (λ z. h (ap (λ (b : Result X). b .answer .number) on ∙ z)))
       split rest true false e f =
-          here xs ys i p ps d (fed kind (at kind ys (p .slot)) p d .answer .number) (ap (λ (b : Result X). b .answer .index) (stops xs ys i p ps d e f)) (ap (λ (b : Result X). b .answer .number) (stops xs ys i p ps d e f)) (unfold recordRefusal in rw e)
+          let s = stops xs ys i p ps d e f in
+          here xs ys i p ps d (fed-first .answer .number) (ap (λ (b : Result X). b .answer .index) s) (ap (λ (b : Result X). b .answer .number) s) (unfold recordRefusal in rw e)
       split rest false r e f =
-          here xs ys i p ps d slot-number (ap (λ (b : Result X). b .answer .index) (stops-outside xs ys i p ps d e)) (ap (λ (b : Result X). b .answer .number) (stops-outside xs ys i p ps d e)) (unfold recordRefusal in rw e)
+          let s = stops-outside xs ys i p ps d e in
+          here xs ys i p ps d slot-number (ap (λ (b : Result X). b .answer .index) s) (ap (λ (b : Result X). b .answer .number) s) (unfold recordRefusal in rw e)

@@ -6,9 +6,8 @@ use mathlib.Core.List.{List}
 use Prim.Native.Nat.{ℕ}
 use native.Mathlib.Omega.{arith}
 use borrow.Author.Tests.{eqb-false, eq-eqb, ne-eqb}
-use lib.Dec.{leb, eqb}
+use lib.Dec.{eqb}
 use lib.ListN.{length}
-use Rattle.laws_words.specs.Bytes.{over}
 use Rattle.refusals.specs.Numbers.{accepted, slot-closed}
 use Rattle.hash.specs.Hash.{isDigestLength, hashInRange, hashOf, digestOf, writtenAnswered, writtenOver}
 use Rattle.hash.specs.declared.LengthAnswer.{LengthAnswer}
@@ -75,20 +74,11 @@ module _ (b : Bank) (k : ℕ) where
     pub output-written : h .number ≡ accepted → {a : LengthAnswer} {to : List ℕ}
         → a ≡ writtenAnswered (h .hash) (length (digestOf (h .hash))) (length out) → to ≡ writtenOver (h .hash) (digestOf (h .hash)) out
         → (a ≡ lengthAnswer (told b (on k (digest-to out)) .answer)) × (to ≡ told b (on k (digest-to out)) .answer .bytes)
-    unfolding written writtenAnswered writtenOver hashInRange over
-    output-written z {a} {to} f g =
+    unfolding written writtenAnswered writtenOver hashInRange
+    output-written z f g =
         let d : List ℕ = told b (on k digest) .answer .bytes in
         let s : isDigestLength (length d) ≡ true = told-sized (sym number-is ∙ z) in
         let q : eqb (told b (on k digest) .answer .number) accepted ≡ true = eq-eqb _ accepted (sym number-is ∙ z) in
         let y : h .hash ≡ hashOf d = ap (λ (x : HashAnswer). x .hash) e in
         let x : digestOf (hashOf d) ≡ d = digest-of-hash d in
-        split (leb (length d) (length out)) refl q s y x
-      where
-        split : (v : Bool) → leb (length (told b (on k digest) .answer .bytes)) (length out) ≡ v
-            → eqb (told b (on k digest) .answer .number) accepted ≡ true
-            → isDigestLength (length (told b (on k digest) .answer .bytes)) ≡ true
-            → h .hash ≡ hashOf (told b (on k digest) .answer .bytes)
-            → digestOf (hashOf (told b (on k digest) .answer .bytes)) ≡ told b (on k digest) .answer .bytes
-            → (a ≡ lengthAnswer (told b (on k (digest-to out)) .answer)) × (to ≡ told b (on k (digest-to out)) .answer .bytes)
-        split true l q s y x = (f ∙ rw (told-written out, q, l, y, x, s, l), g ∙ rw (told-written out, q, l, y, x, s, l))
-        split false l q s y x = (f ∙ rw (told-written out, q, l, y, x, s, l), g ∙ rw (told-written out, q, l, y, x, s, l))
+        (f ∙ rw (told-written out, q, y, x, s), g ∙ rw (told-written out, q, y, x, s))

@@ -1,13 +1,15 @@
 -- Document 01's rules of slots: what is asked of a bank and what it answers, over any number of slots, any limit of records in a batch and
 -- whatever a slot holds. Refusals stand in document 01's order. Assumes nothing.
 use mathlib.Core.Bool.{Bool, true, cond, not, _&&_}
-use mathlib.Core.List.{List, [], _∷_, _++_}
+use mathlib.Core.List.{List, [], _∷_}
 use Prim.Native.Nat.{ℕ, suc}
 use lib.Dec.{ltb, leb, eqb}
 use lib.ListN.{length, getD, set, take, drop}
-use Rattle.refusals.specs.Numbers.{accepted, slot-number, slot-closed, piece-outside, batch-long, output-short, slot-open, bad-record, pieceOk}
+use Rattle.refusals.specs.Numbers.{accepted, slot-number, slot-closed, piece-outside, batch-long, slot-open, bad-record, pieceOk}
 use Rattle.refusals.specs.Tests.{Test, test, tested, first}
 use Rattle.members.specs.Row.{Answer, numbered, Taker}
+use Rattle.hash.specs.Output.{wrote, wroteOver}
+use Rattle.hash.specs.declared.LengthAnswer.{LengthAnswer}
 use Rattle.blake2b.specs.Params.{inRange}
 use Rattle.blake2b.specs.declared.params.Params.{Params}
 use Rattle.bank.specs.declared.piece.Piece.{Piece}
@@ -45,13 +47,11 @@ refusal digest n = numbered n
 refusal count n = numbered n
 refusal close n = numbered n
 
--- a digest's answer, when it is to go to an output: 11 where that is shorter
+-- a digest's answer, when it is to go to an output: that of the write, which is 11 where the output is shorter
 unfoldable pub written : Answer → List ℕ → Answer
 written a out =
-    cond (eqb (a .number) accepted)
-    (tested (test (leb (length (a .bytes)) (length out)) output-short ∷ [])
-    (record { number = accepted; index = 0; value = length (a .bytes); bytes = a .bytes ++ drop (length (a .bytes)) out }) (refusal (digest-to out)))
-    (refusal (digest-to out) (a .number))
+    let w : LengthAnswer = wrote (length (a .bytes)) (length out) in
+    cond (eqb (a .number) accepted) (record { number = w .number; index = 0; value = w .length; bytes = wroteOver (a .bytes) out }) (refusal (digest-to out) (a .number))
 
 -- what a slot can hold: what a closed one is, and what opening makes; whether one is open, and keeps the ranges of refusal 14; and what an open
 -- one makes of bytes, digests and counts

@@ -20,6 +20,7 @@ use Rattle.hash.specs.declared.HashAnswer.{HashAnswer}
 use Rattle.laws_blocks.proofs.Sizes.{length-through}
 use Rattle.hash.proofs.Digests.{made-hash}
 use Rattle.blake2b.specs.Params.{defaults, inRange, asked, front}
+use Rattle.blake2b_state.specs.Sizes.{blockbytes}
 use Rattle.blake2b_state.specs.State.{keyFront, lastNodeOf, updated, finalized, reads}
 use Rattle.blake2b.specs.Member.{fresh, digest, hashed, member}
 use Rattle.blake2b.specs.declared.params.Params.{Params}
@@ -28,7 +29,7 @@ use Rattle.blake2b.proofs.Cleaned.{good-defaults}
 use Rattle.blake2b.proofs.Pushes.{laws, digest-asked, begun}
 use Rattle.blake2b_state.proofs.States.{faithful, last-node-is}
 
-module _ (p : Params) (whole : length (p .«key_block») ≡ 128) (good : inRange p ≡ true) (m : List ℕ) where
+module _ (p : Params) (whole : length (p .«key_block») ≡ blockbytes) (good : inRange p ≡ true) (m : List ℕ) where
   -- through a state: a refusal of the update is that of the hash
   module _ {u : StateAnswer} {r : HashAnswer} (e : u ≡ updated (fresh p) m) where
     pub hashed-past : (u .number ≡ accepted → ⊥) → r ≡ noHash total-over → r ≡ hashed p m
@@ -41,14 +42,15 @@ module _ (p : Params) (whole : length (p .«key_block») ≡ 128) (good : inRang
 
   -- and straight through the blocks, where there is no key
   pub hashed-straight : p .«key_length» ≤ 0 → length m ≤ limit → {w v : List ℕ} {n : LastNode} {r : HashAnswer} → v ≡ start BLAKE2b (asked p) → n ≡ lastNodeOf (p .«last_node»)
-      → w ≡ throughBlocks BLAKE2b 128 v 0 true (isLastNode n) m → r ≡ madeFrom (stateBytes BLAKE2b w) (p .«hash_length») → r ≡ hashed p m
+      → w ≡ throughBlocks BLAKE2b blockbytes v 0 true (isLastNode n) m → r ≡ madeFrom (stateBytes BLAKE2b w) (p .«hash_length») → r ≡ hashed p m
   unfolding hashed
   hashed-straight none few {w} {v} e f k g =
       let z : front p ≡ [] = unfold keyFront in rw (lt-leb 1 (p .«key_length») (omega arith)) in
+      let flag = ap isLastNode f ∙ last-node-is (p .«last_node») in
       promises.hashed-straight member laws reads faithful p (begun p whole good) m z few
       (made-hash (p .«hash_length») (stateBytes BLAKE2b w) (digest-asked p good)
-      (ap (λ (x : List ℕ). length (stateBytes BLAKE2b x)) k ∙ length-through BLAKE2b 128 v 0 true _ m) g
-      ∙ ap (λ (x : List ℕ). reads .made (take (p .«hash_length») (stateBytes BLAKE2b x))) (k ∙ (λ i. throughBlocks BLAKE2b 128 (e i) 0 true ((ap isLastNode f ∙ last-node-is (p .«last_node»)) i) m)))
+      (ap (λ (x : List ℕ). length (stateBytes BLAKE2b x)) k ∙ length-through BLAKE2b blockbytes v 0 true _ m) g
+      ∙ ap (λ (x : List ℕ). reads .made (take (p .«hash_length») (stateBytes BLAKE2b x))) (k ∙ (λ i. throughBlocks BLAKE2b blockbytes (e i) 0 true (flag i) m)))
 
   -- the one-shot answer is that of a state that took the message, with a key or without
   pub one-shot-is-incremental : length (front p) + length m ≤ limit → hashed p m ≡ finalized (updated (fresh p) m .state)

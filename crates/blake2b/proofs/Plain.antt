@@ -16,27 +16,28 @@ use Rattle.refusals.specs.Numbers.{limit}
 use Rattle.hash.specs.Hash.{hashOf}
 use Rattle.hash.specs.declared.HashAnswer.{HashAnswer}
 use Rattle.blake2b.specs.Params.{defaults, asked, front}
+use Rattle.blake2b_state.specs.Sizes.{outbytes}
 use Rattle.blake2b_state.specs.State.{keyFront, plain, updated, finalized}
 use Rattle.blake2b.specs.Member.{fresh, digest}
 use Rattle.blake2b.proofs.Cleaned.{good-defaults}
 use Rattle.blake2b.proofs.OneShot.{hashed-defaults, one-shot-is-incremental}
 use Rattle.blake2b.proofs.Rows.{digest-is-hash}
 
-start-plain : start BLAKE2b (asked defaults) ≡ start BLAKE2b (sequential 64 0)
+start-plain : start BLAKE2b (asked defaults) ≡ start BLAKE2b (sequential outbytes 0)
 unfolding start parameterBlock pad zeros
 start-plain = refl
 
-pub hash-plain : (m : List ℕ) → hash BLAKE2b (asked defaults) false [] m ≡ blake2 BLAKE2b 64 [] m
+pub hash-plain : (m : List ℕ) → hash BLAKE2b (asked defaults) false [] m ≡ blake2 BLAKE2b outbytes [] m
 unfolding hash untruncated
-hash-plain m = ap (λ (h : List ℕ). take 64 (stateBytes BLAKE2b (foldl (compress BLAKE2b) h (calls BLAKE2b false (keyed BLAKE2b [] m))))) start-plain
+hash-plain m = ap (λ (h : List ℕ). take outbytes (stateBytes BLAKE2b (foldl (compress BLAKE2b) h (calls BLAKE2b false (keyed BLAKE2b [] m))))) start-plain
 
-pub length-of-digest : (m : List ℕ) → length (blake2 BLAKE2b 64 [] m) ≡ 64
+pub length-of-digest : (m : List ℕ) → length (blake2 BLAKE2b outbytes [] m) ≡ outbytes
 unfolding hash
 length-of-digest m =
-    let whole = length-whole BLAKE2b (omega arith) (sequential 64 0) false (keyed BLAKE2b [] m) in
-    length-take-le 64 (untruncated BLAKE2b (sequential 64 0) false (keyed BLAKE2b [] m)) (omega arith)
+    let whole = length-whole BLAKE2b (omega arith) (sequential outbytes 0) false (keyed BLAKE2b [] m) in
+    length-take-le outbytes (untruncated BLAKE2b (sequential outbytes 0) false (keyed BLAKE2b [] m)) (omega arith)
 
-pub digest-plain : (m : List ℕ) → digest defaults m ≡ blake2 BLAKE2b 64 [] m
+pub digest-plain : (m : List ℕ) → digest defaults m ≡ blake2 BLAKE2b outbytes [] m
 digest-plain m = digest-is-hash defaults (good-defaults .clean) m ∙ hash-plain m
 
 module _ (m : List ℕ) (few : length m ≤ limit) where
@@ -46,7 +47,7 @@ module _ (m : List ℕ) (few : length m ≤ limit) where
   plain-within = omega arith
 
   -- a fresh state, one update, and then the digest
-  pub finalized-plain : finalized (updated (fresh defaults) m .state) .hash ≡ hashOf (blake2 BLAKE2b 64 [] m)
+  pub finalized-plain : finalized (updated (fresh defaults) m .state) .hash ≡ hashOf (blake2 BLAKE2b outbytes [] m)
   finalized-plain =
       ap (λ (a : HashAnswer). a .hash) (sym (one-shot-is-incremental defaults (good-defaults .clean .whole) (good-defaults .ranged) m plain-within) ∙ hashed-defaults m few)
       ∙ ap hashOf (digest-plain m)

@@ -25,6 +25,7 @@ use Rattle.members.proofs.Pieces as pieces
 use Rattle.members.proofs.Cuts as cuts
 use Rattle.members.proofs.Promises as promises
 use Rattle.blake2b.specs.Params.{inRange, asked, front, keyOf, withLastNode, Clean}
+use Rattle.blake2b_state.specs.Sizes.{blockbytes}
 use Rattle.blake2b_state.specs.State.{keyFront, keeper, core, holding, machine, pushed, stateInRange, updated, finalized, lastNodeSet, closedDigest, reads}
 use Rattle.blake2b.specs.Member.{fresh, member}
 use Rattle.blake2b.specs.Member as own
@@ -45,7 +46,7 @@ pub pushed-none : (s : State) → Sound machine (core s) → pushed s [] ≡ s
 pushed-none s sound = pieces.pushed-none keeper states.laws s sound
 
 -- behind the key block, the message: what the definitions hash
-block-keyed : (n : ℕ) (b m : List ℕ) → length b ≡ 128 → b ≡ pad 128 (take n b) → cond (leb 1 n) b [] ++ m ≡ keyed BLAKE2b (take n b) m
+block-keyed : (n : ℕ) (b m : List ℕ) → length b ≡ blockbytes → b ≡ pad blockbytes (take n b) → cond (leb 1 n) b [] ++ m ≡ keyed BLAKE2b (take n b) m
 unfolding keyed
 block-keyed zero b m l e = refl
 block-keyed (suc n) [] m l e = absurd (omega arith)
@@ -164,7 +165,12 @@ record Like (s : State) (r : Row Params) : Type 0 where
   reached : Reached r
 
 stays-alike : Alike stateCalls rowCalls Like
-stays-alike = record { number = number; next = next; digested = λ s r e. ap (stateTaker .digested) (e .is) ∙ says-digest r (e .reached); counted = λ s r e. ap (stateTaker .counted) (e .is) ∙ says-count r (e .reached) }
+stays-alike = record {
+  number = number;
+  next = next;
+  digested = λ s r e. ap (stateTaker .digested) (e .is) ∙ says-digest r (e .reached);
+  counted = λ s r e. ap (stateTaker .counted) (e .is) ∙ says-count r (e .reached);
+}
   where
     number : (s : State) (r : Row Params) (a : Change) → Like s r → stateCalls .number s a ≡ rowCalls .number r a
     number s r (update a) e = ap (λ (t : State). stateTaker .number t a) (e .is) ∙ says-number r (e .reached) a

@@ -12,17 +12,18 @@ use Rattle.laws_words.specs.Bytes.{zeros}
 use Rattle.refusals.specs.Numbers.{accepted, digest-length, key-length, salt-length, personal-length, inner-length, bad-record}
 use Rattle.refusals.specs.Tests.{Test, test, tested}
 use Rattle.hash.specs.Hash.{isDigestLength}
+use Rattle.blake2b_state.specs.Sizes.{blockbytes, outbytes, keybytes, fieldbytes}
 use Rattle.blake2b_state.specs.State.{keyFront}
 use Rattle.blake2b.specs.declared.params.Params.{Params}
 use Rattle.blake2b.specs.declared.params.ParamsAnswer.{ParamsAnswer}
 
 abbrev pub defaults : Params
 defaults = record {
-  «hash_length» = 64;
+  «hash_length» = outbytes;
   «key_length» = 0;
-  «key_block» = zeros 128;
-  salt = zeros 16;
-  personal = zeros 16;
+  «key_block» = zeros blockbytes;
+  salt = zeros fieldbytes;
+  personal = zeros fieldbytes;
   fanout = 1;
   «max_depth» = 1;
   «max_leaf_length» = 0;
@@ -34,7 +35,7 @@ defaults = record {
 
 -- the ranges of refusal 14
 unfoldable pub inRange : Params → Bool
-inRange p = isDigestLength (p .«hash_length») && (leb (p .«key_length») 64 && leb (p .«inner_hash_length») 64)
+inRange p = isDigestLength (p .«hash_length») && (leb (p .«key_length») keybytes && leb (p .«inner_hash_length») outbytes)
 
 -- what a setter answers: 14 where the record is bad, its own refusal where what it was given is, else the changed record
 abbrev pub answered : Params → List Test → Params → ParamsAnswer
@@ -98,13 +99,13 @@ withFields p key-length key-block salt personal last-node = record {
 
 -- a key, a salt and a personalization are zero-filled on the right: nothing of an older one stays
 abbrev pub withKey : List ℕ → Params → Params
-withKey key p = withFields p (length key) (pad 128 key) (p .salt) (p .personal) (p .«last_node»)
+withKey key p = withFields p (length key) (pad blockbytes key) (p .salt) (p .personal) (p .«last_node»)
 
 abbrev pub withSalt : List ℕ → Params → Params
-withSalt salt p = withFields p (p .«key_length») (p .«key_block») (pad 16 salt) (p .personal) (p .«last_node»)
+withSalt salt p = withFields p (p .«key_length») (p .«key_block») (pad fieldbytes salt) (p .personal) (p .«last_node»)
 
 abbrev pub withPersonal : List ℕ → Params → Params
-withPersonal personal p = withFields p (p .«key_length») (p .«key_block») (p .salt) (pad 16 personal) (p .«last_node»)
+withPersonal personal p = withFields p (p .«key_length») (p .«key_block») (p .salt) (pad fieldbytes personal) (p .«last_node»)
 
 abbrev pub withLastNode : Bool → Params → Params
 withLastNode up p = withFields p (p .«key_length») (p .«key_block») (p .salt) (p .personal) up
@@ -134,8 +135,8 @@ keyOf p = take (p .«key_length») (p .«key_block»)
 
 -- parameters as the setters leave them: the key block is the key, zero-filled
 pub record Clean (p : Params) : Type 0 where
-  pub whole : length (p .«key_block») ≡ 128
-  pub filled : p .«key_block» ≡ pad 128 (keyOf p)
+  pub whole : length (p .«key_block») ≡ blockbytes
+  pub filled : p .«key_block» ≡ pad blockbytes (keyOf p)
 
 -- a call of a setter, and the parameters that it hands back
 pub data Setting : Type 0 where
@@ -153,13 +154,13 @@ pub data Setting : Type 0 where
 
 abbrev pub afterSetting : Params → Setting → Params
 afterSetting p (hash-length n) = answered p (test (isDigestLength n) digest-length ∷ []) (withNumber hash-length-at n p) .params
-afterSetting p (key k) = answered p (test (leb (length k) 64) key-length ∷ []) (withKey k p) .params
-afterSetting p (salt s) = answered p (test (leb (length s) 16) salt-length ∷ []) (withSalt s p) .params
-afterSetting p (personal s) = answered p (test (leb (length s) 16) personal-length ∷ []) (withPersonal s p) .params
+afterSetting p (key k) = answered p (test (leb (length k) keybytes) key-length ∷ []) (withKey k p) .params
+afterSetting p (salt s) = answered p (test (leb (length s) fieldbytes) salt-length ∷ []) (withSalt s p) .params
+afterSetting p (personal s) = answered p (test (leb (length s) fieldbytes) personal-length ∷ []) (withPersonal s p) .params
 afterSetting p (fanout n) = answered p [] (withNumber fanout-at n p) .params
 afterSetting p (max-depth n) = answered p [] (withNumber max-depth-at n p) .params
 afterSetting p (max-leaf-length n) = answered p [] (withNumber max-leaf-length-at n p) .params
 afterSetting p (node-offset n) = answered p [] (withNumber node-offset-at n p) .params
 afterSetting p (node-depth n) = answered p [] (withNumber node-depth-at n p) .params
-afterSetting p (inner-hash-length n) = answered p (test (leb n 64) inner-length ∷ []) (withNumber inner-hash-length-at n p) .params
+afterSetting p (inner-hash-length n) = answered p (test (leb n outbytes) inner-length ∷ []) (withNumber inner-hash-length-at n p) .params
 afterSetting p (last-node up) = answered p [] (withLastNode up p) .params

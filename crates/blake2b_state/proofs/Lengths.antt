@@ -12,15 +12,16 @@ use Rattle.laws_blocks.specs.Blocks.{throughBlocks}
 use Rattle.laws_blocks.proofs.Sizes.{length-through}
 use Rattle.refusals.specs.Numbers.{accepted, bad-record}
 use Rattle.hash.specs.Hash.{isDigestLength, digestOf}
+use Rattle.blake2b_state.specs.Sizes.{blockbytes, outbytes}
 use Rattle.blake2b_state.specs.State.{bounds, pending, stateInRange, closedDigest, finalized}
 use Rattle.blake2b_state.specs.declared.state.State.{State}
 use Rattle.hash.proofs.Digests.{digest-of-hash, digest-length-is}
 use Rattle.members.proofs.Ranges.{in-range}
 
-pub length-closed-digest : (s : State) → s .«hash_length» ≤ 64 → length (closedDigest s) ≡ s .«hash_length»
+pub length-closed-digest : (s : State) → s .«hash_length» ≤ outbytes → length (closedDigest s) ≡ s .«hash_length»
 length-closed-digest s h =
-    let l = length-through BLAKE2b 128 (s .words) (s .count) true (s .«last_node») (pending s) in
-    length-take-le (s .«hash_length») (stateBytes BLAKE2b (throughBlocks BLAKE2b 128 (s .words) (s .count) true (s .«last_node») (pending s))) (omega arith)
+    let l = length-through BLAKE2b blockbytes (s .words) (s .count) true (s .«last_node») (pending s) in
+    length-take-le (s .«hash_length») (stateBytes BLAKE2b (throughBlocks BLAKE2b blockbytes (s .words) (s .count) true (s .«last_node») (pending s))) (omega arith)
 
 pub digest-sized : (s : State) → finalized s .number ≡ accepted → isDigestLength (length (digestOf (finalized s .hash))) ≡ true
 unfolding finalized

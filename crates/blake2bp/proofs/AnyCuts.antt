@@ -13,6 +13,7 @@ use Rattle.members.specs.Member.{reached}
 use Rattle.members.proofs.Cuts as cuts
 use Rattle.members.proofs.Promises as promises
 use Rattle.hash.specs.Hash.{hashOf}
+use Rattle.blake2bp.specs.Sizes.{roombytes}
 use Rattle.blake2bp.specs.State.{core, machine, pending, stateInRange, keyBytes, fresh, reads, updated, finalized, counted, digest, keeper, member}
 use Rattle.blake2bp.specs.declared.params.Params.{Params}
 use Rattle.blake2bp.specs.declared.state.State.{State}
@@ -30,7 +31,7 @@ empty-changes-nothing = promises.empty-changes-nothing keeper reads faithful kee
 
 module _ (p : Params) (good : Good p) (ps : List (List ℕ)) where
   -- behind the bytes that wait, the buffer is zero
-  pub zeros-behind : reached member p ps .buf ≡ pad 1024 (pending (reached member p ps))
+  pub zeros-behind : reached member p ps .buf ≡ pad roombytes (pending (reached member p ps))
   zeros-behind = cuts.zeros-behind member laws p (begun p good) ps
 
   module _ (within : keyBytes p + length (joined ps) ≤ limit) where

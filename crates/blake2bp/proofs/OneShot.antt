@@ -14,6 +14,7 @@ use Rattle.hash.specs.Hash.{hashOf, noHash, madeFrom}
 use Rattle.hash.specs.declared.HashAnswer.{HashAnswer}
 use Rattle.laws_states.proofs.Trees.{length-rooted}
 use Rattle.hash.proofs.Digests.{made-hash}
+use Rattle.blake2bp_leaves.specs.Sizes.{blockbytes, degree}
 use Rattle.blake2bp_leaves.specs.Leaves.{leafOf, wordsOf, onLeaf}
 use Rattle.blake2bp_leaves.specs.declared.leaves.Leaf.{Leaf}
 use Rattle.blake2bp.specs.Params.{defaults}
@@ -37,14 +38,16 @@ module _ (p : Params) (good : Good p) (m : List ℕ) where
     hashed-through = promises.hashed-through member laws reads faithful p (begun p good) m e
 
   -- and straight from the leaves, where there is no key
-  pub hashed-straight : p .«key_length» ≤ 0 → length m ≤ limit → {ls es : List Leaf} {w : List ℕ} {r : HashAnswer} → ls ≡ map leafOf (leafStarts BLAKE2b 4 (p .«hash_length») (p .«key_length»))
-      → w ≡ rootStart BLAKE2b 4 (p .«hash_length») (p .«key_length») → es ≡ finished 128 onLeaf 4 ls 0 m → r ≡ madeFrom (rooted BLAKE2b w (map wordsOf es)) (p .«hash_length») → r ≡ hashed p m
+  pub hashed-straight : p .«key_length» ≤ 0 → length m ≤ limit → {ls es : List Leaf} {w : List ℕ} {r : HashAnswer}
+      → ls ≡ map leafOf (leafStarts BLAKE2b degree (p .«hash_length») (p .«key_length»)) → w ≡ rootStart BLAKE2b degree (p .«hash_length») (p .«key_length»)
+      → es ≡ finished blockbytes onLeaf degree ls 0 m → r ≡ madeFrom (rooted BLAKE2b w (map wordsOf es)) (p .«hash_length») → r ≡ hashed p m
   unfolding hashed
   hashed-straight none few {ls} {es} {w} leaves root ends e =
       let d = p .«hash_length» in
+      let closed = ends ∙ ap (λ (l : List Leaf). finished blockbytes onLeaf degree l 0 m) leaves in
       promises.hashed-straight member laws reads faithful p (begun p good) m (front-plain p (good .whole) (key-short p (good .ranged)) none) few
       (made-hash d (rooted BLAKE2b w (map wordsOf es)) (digest-asked p (good .ranged)) (length-rooted BLAKE2b w (map wordsOf es)) e
-      ∙ (λ i. reads .made (take d (rooted BLAKE2b (root i) (map wordsOf ((ends ∙ ap (λ (l : List Leaf). finished 128 onLeaf 4 l 0 m) leaves) i))))))
+      ∙ (λ i. reads .made (take d (rooted BLAKE2b (root i) (map wordsOf (closed i))))))
 
   -- the one-shot answer is that of a state that took the message, with a key or without
   pub one-shot-is-incremental : keyBytes p + length m ≤ limit → hashed p m ≡ finalized (updated (fresh p) m .state)

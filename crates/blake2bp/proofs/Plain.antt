@@ -14,13 +14,14 @@ use Rattle.definitions.specs.Tree.{parameters, leaf, parallel, BLAKE2bp}
 use Rattle.laws_blocks.proofs.Sizes.{length-whole}
 use Rattle.blake2bp.specs.Params.{defaults}
 use Rattle.blake2bp.specs.State.{digest}
+use Rattle.blake2bp_leaves.specs.Sizes.{degree, outbytes}
 
-pub digest-plain : (m : List ℕ) → digest defaults m ≡ BLAKE2bp 64 [] m
+pub digest-plain : (m : List ℕ) → digest defaults m ≡ BLAKE2bp outbytes [] m
 digest-plain m = refl
 
-pub length-of-digest : (m : List ℕ) → length (BLAKE2bp 64 [] m) ≡ 64
+pub length-of-digest : (m : List ℕ) → length (BLAKE2bp outbytes [] m) ≡ outbytes
 unfolding parallel
 length-of-digest m =
-    let states = flatMap (leaf BLAKE2b 4 64 [] m) (from 0 4) in
-    let whole = length-whole BLAKE2b (omega arith) (parameters BLAKE2b 4 64 0 0 1) true states in
-    length-take-le 64 (untruncated BLAKE2b (parameters BLAKE2b 4 64 0 0 1) true states) (omega arith)
+    let states = flatMap (leaf BLAKE2b degree outbytes [] m) (from 0 degree) in
+    let whole = length-whole BLAKE2b (omega arith) (parameters BLAKE2b degree outbytes 0 0 1) true states in
+    length-take-le outbytes (untruncated BLAKE2b (parameters BLAKE2b degree outbytes 0 0 1) true states) (omega arith)

@@ -12,6 +12,8 @@ use Rattle.laws_states.specs.Buffer as buffer
 use Rattle.laws_states.proofs.Buffers.{Sound}
 use Rattle.laws_states.proofs.Buffers as buffers
 use Rattle.refusals.specs.Numbers.{accepted, limit}
+use Rattle.blake2bp_leaves.specs.Sizes.{blockbytes, rowbytes, outbytes}
+use Rattle.blake2bp.specs.Sizes.{roombytes}
 use Rattle.blake2bp.specs.Params.{defaults}
 use Rattle.blake2bp.specs.State.{core, bounds, machine, keeper, member, pending, total, stateInRange, fresh, reads, updated, leafCounted, bufferedIn}
 use Rattle.blake2bp.specs.declared.state.State.{State}
@@ -24,12 +26,12 @@ use Rattle.members.proofs.Cuts.{sound-fresh}
 use Rattle.members.proofs.Pieces.{updated-pushed}
 use Rattle.members.proofs.Ranges.{ranged}
 
--- a state of 64-byte digests without a key that buffers so many bytes, at this leaf count
+-- a state of the longest digests without a key that buffers so many bytes, at this leaf count
 record Holds (buffered leaf-count : ℕ) (s : State) : Type 0 where
   sound : Sound machine (core s)
   held : s .«buf_len» ≡ buffered
   counted : s .count .0 ≡ leaf-count
-  asked : s .«hash_length» ≡ 64
+  asked : s .«hash_length» ≡ outbytes
   plain : s .«is_keyed» ≡ false
 
 -- what the two read-only calls answer of it
@@ -37,11 +39,12 @@ pub record Shows (buffered leaf-count : ℕ) (s : State) : Type 0 where
   pub buffers : bufferedIn s ≡ record { number = accepted; buffered = buffered }
   pub counts : leafCounted s ≡ record { number = accepted; count = record { 0 = leaf-count } }
 
-in-range : (h c : ℕ) (s : State) → Holds h c s → h ≤ 1024 → totalOf bounds c h ≤ limit → stateInRange s ≡ true
+in-range : (h c : ℕ) (s : State) → Holds h c s → h ≤ roombytes → totalOf bounds c h ≤ limit → stateInRange s ≡ true
 in-range h c s g few within =
-    (λ i. rangeOf bounds (g .asked i) (g .held i) (g .counted i) (g .plain i)) ∙ ranged bounds 64 h c false (record { least = omega arith; most = omega arith; held = few; within = within; front = omega arith })
+    (λ i. rangeOf bounds (g .asked i) (g .held i) (g .counted i) (g .plain i))
+    ∙ ranged bounds outbytes h c false (record { least = omega arith; most = omega arith; held = few; within = within; front = omega arith })
 
-shows : (h c : ℕ) (s : State) → Holds h c s → h ≤ 1024 → totalOf bounds c h ≤ limit → Shows h c s
+shows : (h c : ℕ) (s : State) → Holds h c s → h ≤ roombytes → totalOf bounds c h ≤ limit → Shows h c s
 unfolding bufferedIn leafCounted
 shows h c s g few within =
     let r = in-range h c s g few within in
@@ -51,8 +54,8 @@ shows h c s g few within =
     }
 
 -- an update of n bytes
-more : (h c n : ℕ) (s : State) (a : List ℕ) → Holds h c s → length a ≡ n → h ≤ 1024 → totalOf bounds c h + n ≤ limit
-    → Holds (h + n - 512 * gone machine h (h + n)) (c + 128 * gone machine h (h + n)) (next s a)
+more : (h c n : ℕ) (s : State) (a : List ℕ) → Holds h c s → length a ≡ n → h ≤ roombytes → totalOf bounds c h + n ≤ limit
+    → Holds (h + n - rowbytes * gone machine h (h + n)) (c + blockbytes * gone machine h (h + n)) (next s a)
 unfolding buffer.pushed buffer.moved updated
 more h c n s a g e few within =
     let p : length (pending s) ≡ h = buffers.length-pending machine lawful (core s) (g .sound) ∙ g .held in
@@ -62,8 +65,8 @@ more h c n s a g e few within =
     rw (updated-pushed keeper keeper-laws (reads .state accepted) (λ k. reads .state k s) s (in-range h c s g few (omega (arith, within))) a t, next)
     (record {
       sound = buffers.sound-pushed machine lawful (core s) a (g .sound);
-      held = λ i. l i - 512 * k i;
-      counted = λ i. g .counted i + 128 * k i;
+      held = λ i. l i - rowbytes * k i;
+      counted = λ i. g .counted i + blockbytes * k i;
       asked = g .asked;
       plain = g .plain;
     })
@@ -112,4 +115,6 @@ module _ (a b c : List ℕ) (first : length a ≡ 512) (second : length b ≡ 51
   -- the same 1,024 bytes at once
   pub at-once : Shows 512 128 (next (fresh defaults) (a ++ b))
   unfolding gone spare limit
-  at-once = shows 512 128 (next (fresh defaults) (a ++ b)) (more 0 0 1024 (fresh defaults) (a ++ b) empty (length-append a b ∙ (λ i. first i + second i)) (omega arith) (omega arith)) (omega arith) (omega arith)
+  at-once =
+      let l = length-append a b ∙ (λ i. first i + second i) in
+      shows 512 128 (next (fresh defaults) (a ++ b)) (more 0 0 1024 (fresh defaults) (a ++ b) empty l (omega arith) (omega arith)) (omega arith) (omega arith)

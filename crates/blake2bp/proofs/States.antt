@@ -13,6 +13,7 @@ use Rattle.members.specs.Row.{digested}
 use Rattle.members.proofs.Laws.{KeeperLaws, Laws}
 use Rattle.members.proofs.Promises.{Faithful}
 use Rattle.members.proofs.Closings.{tree-late}
+use Rattle.blake2bp_leaves.specs.Sizes.{blockbytes, degree}
 use Rattle.blake2bp_leaves.proofs.Turns.{words-on-leaf}
 use Rattle.hash.proofs.Digests.{digest-of-hash}
 use Rattle.members.proofs.Laws as members
@@ -22,7 +23,7 @@ use Rattle.blake2bp_leaves.specs.declared.leaves.Leaf.{Leaf}
 use Rattle.blake2bp.specs.declared.state.State.{State}
 
 abbrev pub lawful : Lawful machine
-lawful = parallel-lawful 128 onLeaf (omega arith) 4 (omega arith)
+lawful = parallel-lawful blockbytes onLeaf (omega arith) degree (omega arith)
 
 pub keeper-laws : KeeperLaws keeper
 keeper-laws = record {
@@ -35,7 +36,7 @@ keeper-laws = record {
   same-length = λ s h. refl;
   same-key = λ s h. refl;
   same-close = λ s h. refl;
-  late = λ s. tree-late BLAKE2b (omega arith) 4 (omega arith) wordsOf onLeaf words-on-leaf (s .«hash_length») (s .«root_words»);
+  late = λ s. tree-late BLAKE2b (omega arith) degree (omega arith) wordsOf onLeaf words-on-leaf (s .«hash_length») (s .«root_words»);
 }
 
 pub laws : Laws member

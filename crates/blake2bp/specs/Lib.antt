@@ -1,3 +1,4 @@
+pub mod Sizes
 pub mod Params
 pub mod State
 pub mod Row

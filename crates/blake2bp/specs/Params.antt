@@ -10,15 +10,17 @@ use Rattle.laws_words.specs.Bytes.{zeros}
 use Rattle.refusals.specs.Numbers.{accepted, digest-length, key-length, bad-record}
 use Rattle.refusals.specs.Tests.{Test, test, tested}
 use Rattle.hash.specs.Hash.{isDigestLength}
+use Rattle.blake2bp_leaves.specs.Sizes.{outbytes}
+use Rattle.blake2bp.specs.Sizes.{keybytes}
 use Rattle.blake2bp.specs.declared.params.Params.{Params}
 use Rattle.blake2bp.specs.declared.params.ParamsAnswer.{ParamsAnswer}
 
 abbrev pub defaults : Params
-defaults = record { «hash_length» = 64; «key_length» = 0; key = zeros 64 }
+defaults = record { «hash_length» = outbytes; «key_length» = 0; key = zeros keybytes }
 
 -- the ranges of refusal 14
 unfoldable pub inRange : Params → Bool
-inRange p = isDigestLength (p .«hash_length») && leb (p .«key_length») 64
+inRange p = isDigestLength (p .«hash_length») && leb (p .«key_length») keybytes
 
 -- what a setter answers: 14 where the record is bad, its own refusal where what it was given is, else the changed record
 unfoldable pub answered : Params → List Test → Params → ParamsAnswer
@@ -29,7 +31,7 @@ withHashLength n p = record { «hash_length» = n; «key_length» = p .«key_len
 
 -- a key is zero-filled on the right: nothing of an older one stays
 abbrev pub withKey : List ℕ → Params → Params
-withKey key p = record { «hash_length» = p .«hash_length»; «key_length» = length key; key = pad 64 key }
+withKey key p = record { «hash_length» = p .«hash_length»; «key_length» = length key; key = pad keybytes key }
 
 -- the key
 abbrev pub keyOf : Params → List ℕ
@@ -42,4 +44,4 @@ pub data Setting : Type 0 where
 
 abbrev pub afterSetting : Params → Setting → Params
 afterSetting p (hash-length n) = answered p (test (isDigestLength n) digest-length ∷ []) (withHashLength n p) .params
-afterSetting p (key k) = answered p (test (leb (length k) 64) key-length ∷ []) (withKey k p) .params
+afterSetting p (key k) = answered p (test (leb (length k) keybytes) key-length ∷ []) (withKey k p) .params

@@ -21,7 +21,9 @@ use Rattle.members.specs.Member.{Member}
 use Rattle.members.specs.Member as members
 use Rattle.hash.specs.Hash.{hashOf, digestOf, noHash}
 use Rattle.hash.specs.declared.HashAnswer.{HashAnswer}
+use Rattle.blake2bp_leaves.specs.Sizes.{degree, blockbytes, outbytes}
 use Rattle.blake2bp_leaves.specs.Leaves.{leafOf, wordsOf, onLeaf}
+use Rattle.blake2bp.specs.Sizes.{roombytes, keyrowbytes}
 use Rattle.blake2bp.specs.Params.{inRange, keyOf}
 use Rattle.blake2bp_leaves.specs.declared.leaves.Leaf.{Leaf}
 use Rattle.blake2bp.specs.declared.params.Params.{Params}
@@ -48,13 +50,13 @@ holding s h = record {
 
 -- four leaves that are dealt blocks of 128 bytes: rows of 512 go, as long as more than 384 bytes stay, and 1,024 fit the buffer
 abbrev pub machine : Machine (List Leaf)
-machine = parallel 128 onLeaf 4
+machine = parallel blockbytes onLeaf degree
 
 abbrev pub zeroState : State
 zeroState = record {
-  leaves = replicate 4 (leafOf (zeros 8));
+  leaves = replicate degree (leafOf (zeros 8));
   «root_words» = zeros 8;
-  buf = zeros 1024;
+  buf = zeros roombytes;
   «buf_len» = 0;
   count = record { 0 = 0 };
   «hash_length» = 0;
@@ -63,11 +65,11 @@ zeroState = record {
 
 -- the row of key blocks in front of the message: none without a key
 abbrev pub front : Params → List ℕ
-front p = keyedRow BLAKE2b 4 (keyOf p) []
+front p = keyedRow BLAKE2b degree (keyOf p) []
 
 -- the longest digest, the two rows of the buffer, four bytes for each one counted of a leaf, a key block for each leaf, and the limit
 abbrev pub bounds : Bounds
-bounds = record { most = 64; room = 1024; unit = 4; key = 512; limit = limit }
+bounds = record { most = outbytes; room = roombytes; unit = degree; key = keyrowbytes; limit = limit }
 
 -- what a key adds to the total
 abbrev pub keyBytes : Params → ℕ
@@ -76,9 +78,9 @@ keyBytes p = keyRow bounds (leb 1 (p .«key_length»))
 -- the state of no message bytes: the row of key blocks waits where there is a key
 abbrev pub fresh : Params → State
 fresh p = record {
-  leaves = map leafOf (leafStarts BLAKE2b 4 (p .«hash_length») (p .«key_length»));
-  «root_words» = rootStart BLAKE2b 4 (p .«hash_length») (p .«key_length»);
-  buf = pad 1024 (front p);
+  leaves = map leafOf (leafStarts BLAKE2b degree (p .«hash_length») (p .«key_length»));
+  «root_words» = rootStart BLAKE2b degree (p .«hash_length») (p .«key_length»);
+  buf = pad roombytes (front p);
   «buf_len» = length (front p);
   count = record { 0 = 0 };
   «hash_length» = p .«hash_length»;
@@ -98,7 +100,7 @@ keeper = record {
   holding = holding;
   hashLength = λ s. s .«hash_length»;
   keyed = λ s. s .«is_keyed»;
-  close = λ s l t d. take (s .«hash_length») (rooted BLAKE2b (s .«root_words») (map wordsOf (finished 128 onLeaf 4 l t d)));
+  close = λ s l t d. take (s .«hash_length») (rooted BLAKE2b (s .«root_words») (map wordsOf (finished blockbytes onLeaf degree l t d)));
 }
 
 abbrev pub member : Member Params State (List Leaf)

@@ -19,16 +19,16 @@ use Rattle.laws_states.proofs.Images.{through-image}
 use Rattle.laws_words.proofs.Stores.{paste-padded}
 use Rattle.blake2bp_leaves.specs.Leaves.{leafOf, wordsOf, stateOf, onLeaf}
 use Rattle.blake2bp_leaves.specs.declared.leaves.Leaf.{Leaf}
-use Rattle.blake2bp_leaves.proofs.Sizes.{degree, block, row, digest}
+use Rattle.blake2bp_leaves.specs.Sizes.{degree, blockbytes, rowbytes, outbytes}
 
 pub words-on-leaf : (l : Leaf) (b : List ℕ) (t : ℕ) (last node : Bool) → wordsOf (onLeaf l b t last node) ≡ onBytes BLAKE2b (wordsOf l) b t last node
 unfolding onLeaf
 words-on-leaf l b t last node = refl
 
 -- a run on the words is a run on the leaf
-pub run-made : (l : Leaf) (t : ℕ) (last node : Bool) (d : List ℕ) {w : List ℕ} → w ≡ throughBlocks BLAKE2b row (l .words) t last node d
-    → leafOf w ≡ through block onLeaf row l t last node d
-run-made l t last node d e = ap leafOf (e ∙ sym (through-image wordsOf block onLeaf (onBytes BLAKE2b) words-on-leaf row l t last node d))
+pub run-made : (l : Leaf) (t : ℕ) (last node : Bool) (d : List ℕ) {w : List ℕ} → w ≡ throughBlocks BLAKE2b rowbytes (l .words) t last node d
+    → leafOf w ≡ through blockbytes onLeaf rowbytes l t last node d
+run-made l t last node d e = ap leafOf (e ∙ sym (through-image wordsOf blockbytes onLeaf (onBytes BLAKE2b) words-on-leaf rowbytes l t last node d))
 
 -- the bytes of what the leaves hold are those of their words
 pub flat-words : (ls : List Leaf) → flatMap stateOf ls ≡ flatMap (stateBytes BLAKE2b) (map wordsOf ls)
@@ -50,7 +50,7 @@ pub zeros-are-none : (d k o e : ℕ)
       leafLength = 0;
       nodeOffset = o;
       nodeDepth = e;
-      innerLength = digest;
+      innerLength = outbytes;
       salt = replicate (BLAKE2b .saltBytes) 0;
       personal = replicate (BLAKE2b .saltBytes) 0;
     }) ≡ start BLAKE2b (parameters BLAKE2b degree d k o e)

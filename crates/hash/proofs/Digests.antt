@@ -13,17 +13,18 @@ use Rattle.definitions.specs.Words.{pad}
 use Rattle.laws_words.specs.Bytes.{over}
 use Rattle.laws_words.proofs.Bytes.{pad-whole}
 use Rattle.refusals.specs.Numbers.{accepted, digest-length, bad-record}
+use Rattle.hash.specs.Sizes.{longest, longestHex}
 use Rattle.hash.specs.Hash.{isDigestLength, hashInRange, hashOf, digestOf, zeroHash, noHash, madeFrom, lengthAnswered, sameBytes, compared, hexOf}
 use Rattle.hash.specs.declared.Hash.{Hash}
 use Rattle.hash.specs.declared.HashAnswer.{HashAnswer}
 
-pub digest-length-is : (n : ℕ) → 1 ≤ n → n ≤ 64 → isDigestLength n ≡ true
-digest-length-is n a b = rw (le-leb 1 n a, le-leb n 64 b)
+pub digest-length-is : (n : ℕ) → 1 ≤ n → n ≤ longest → isDigestLength n ≡ true
+digest-length-is n a b = rw (le-leb 1 n a, le-leb n longest b)
 
-pub digest-length-bounds : (n : ℕ) → isDigestLength n ≡ true → (1 ≤ n) × (n ≤ 64)
-digest-length-bounds n e = let p = and-eq-true-iff (leb 1 n) (leb n 64) .0 e in (leb-true 1 n (p .0), leb-true n 64 (p .1))
+pub digest-length-bounds : (n : ℕ) → isDigestLength n ≡ true → (1 ≤ n) × (n ≤ longest)
+digest-length-bounds n e = let p = and-eq-true-iff (leb 1 n) (leb n longest) .0 e in (leb-true 1 n (p .0), leb-true n longest (p .1))
 
-pub hash-in-range : (d : List ℕ) → 1 ≤ length d → length d ≤ 64 → hashInRange (hashOf d) ≡ true
+pub hash-in-range : (d : List ℕ) → 1 ≤ length d → length d ≤ longest → hashInRange (hashOf d) ≡ true
 unfolding hashInRange
 hash-in-range d a b = digest-length-is (length d) a b
 
@@ -33,10 +34,10 @@ zero-not-in-range = refl
 
 pub digest-of-hash : (d : List ℕ) → digestOf (hashOf d) ≡ d
 unfolding pad
-digest-of-hash d = take-append-seam d (replicate (64 - length d) 0)
+digest-of-hash d = take-append-seam d (replicate (longest - length d) 0)
 
 -- a digest that is asked of a state's bytes, of a length that is in range
-pub made-hash : (n : ℕ) (d : List ℕ) {r : HashAnswer} → isDigestLength n ≡ true → length d ≡ 64 → r ≡ madeFrom d n
+pub made-hash : (n : ℕ) (d : List ℕ) {r : HashAnswer} → isDigestLength n ≡ true → length d ≡ longest → r ≡ madeFrom d n
     → r ≡ record { number = accepted; hash = hashOf (take n d) }
 unfolding madeFrom
 made-hash n d e l f = let b = digest-length-bounds n e in f ∙ rw (e, le-leb n (length d) (omega arith))
@@ -72,8 +73,8 @@ length-hex [] = refl
 length-hex (x ∷ d) = let e = length-hex d in omega arith
 
 -- what is made of 64 bytes
-pub whole-hash : (d : List ℕ) → length d ≡ 64 → record { bytes = d; len = 64 } ≡ hashOf d
-whole-hash d l = λ i. record { bytes = sym (pad-whole 64 d l) i; len = sym l i }
+pub whole-hash : (d : List ℕ) → length d ≡ longest → record { bytes = d; len = longest } ≡ hashOf d
+whole-hash d l = λ i. record { bytes = sym (pad-whole longest d l) i; len = sym l i }
 
 -- and of the bytes of a state
 module _ (d : List ℕ) (n : ℕ) where
@@ -86,7 +87,7 @@ module _ (d : List ℕ) (n : ℕ) where
     unfolding madeFrom
     not-there h = rw (e, lt-leb n (length d) h)
 
-    pub made : n ≤ length d → record { number = accepted; hash = record { bytes = pad 64 (take n d); len = n } } ≡ madeFrom d n
+    pub made : n ≤ length d → record { number = accepted; hash = record { bytes = pad longest (take n d); len = n } } ≡ madeFrom d n
     unfolding madeFrom
     made h = rw (e, le-leb n (length d) h, length-take-le n d h)
 
@@ -112,7 +113,7 @@ module _ (h : Hash) where
   compared-with-bad other = rw and-false
 
   -- a record in range has as many bytes as it says
-  module _ (l : length (h .bytes) ≡ 64) (e : hashInRange h ≡ true) where
+  module _ (l : length (h .bytes) ≡ longest) (e : hashInRange h ≡ true) where
     pub digest-within : h .len ≤ length (h .bytes)
     unfolding hashInRange
     digest-within = let b = digest-length-bounds (h .len) e in omega arith
@@ -124,7 +125,7 @@ module _ (h : Hash) where
     pub hex-length : length (hexOf (digestOf h)) ≡ 2 * h .len
     hex-length = length-hex (digestOf h) ∙ ap (λ (n : ℕ). 2 * n) length-digest
 
-    pub hex-within : 2 * h .len ≤ 128
+    pub hex-within : 2 * h .len ≤ longestHex
     unfolding hashInRange
     hex-within = let b = digest-length-bounds (h .len) e in omega arith
 

@@ -12,6 +12,7 @@ use lib.Seq.{paste, take-append-seam, drop-append-seam}
 use Rattle.laws_words.specs.Bytes.{over}
 use Rattle.laws_words.proofs.Stores.{paste-front}
 use Rattle.refusals.specs.Numbers.{accepted, output-short, bad-record}
+use Rattle.hash.specs.Sizes.{longest}
 use Rattle.hash.specs.Hash.{hashInRange, hashOf, digestOf, writtenAnswered, writtenOver, writtenPart}
 use Rattle.hash.specs.Output.{wrote, wroteOver, wrotePart}
 use Rattle.hash.specs.declared.Hash.{Hash}
@@ -118,7 +119,7 @@ module _ (h : Hash) where
     rest-untouched = rw (over-good good text out) (rest-kept text out (e ∙ answered-good good (length text) (length out)) f)
 
 -- the record of a digest of 1 to 64 bytes is in range: its write is refused only where the output is short
-module _ (d out : List ℕ) (n : ℕ) (some : 1 ≤ n) (most : n ≤ 64) (l : length d ≡ n) where
+module _ (d out : List ℕ) (n : ℕ) (some : 1 ≤ n) (most : n ≤ longest) (l : length d ≡ n) where
   ranged : hashInRange (hashOf d) ≡ true
   ranged = hash-in-range d (omega arith) (omega arith)
 

@@ -7,7 +7,8 @@ use lib.Dec.{leb, ltb, eqb}
 use lib.ListN.{length, take}
 use Rattle.definitions.specs.Words.{pad}
 use Rattle.laws_words.specs.Bytes.{zeros}
-use Rattle.refusals.specs.Numbers.{accepted, digest-length, bad-record}
+use Rattle.refusals.specs.Numbers.{accepted, digest-length, bad-record, isLength}
+use Rattle.hash.specs.Sizes.{longest}
 use Rattle.hash.specs.Output.{wrote, wroteOver, wrotePart}
 use Rattle.hash.specs.declared.Hash.{Hash}
 use Rattle.hash.specs.declared.HashAnswer.{HashAnswer}
@@ -16,7 +17,7 @@ use Rattle.hash.specs.declared.EqualAnswer.{EqualAnswer}
 
 -- a digest has 1 to 64 bytes
 abbrev pub isDigestLength : ℕ → Bool
-isDigestLength n = leb 1 n && leb n 64
+isDigestLength = isLength longest
 
 -- the range of refusal 14
 unfoldable pub hashInRange : Hash → Bool
@@ -24,7 +25,7 @@ hashInRange h = isDigestLength (h .len)
 
 -- the record of a digest: zeros behind it
 abbrev pub hashOf : List ℕ → Hash
-hashOf d = record { bytes = pad 64 d; len = length d }
+hashOf d = record { bytes = pad longest d; len = length d }
 
 -- the digest of a record
 abbrev pub digestOf : Hash → List ℕ
@@ -32,7 +33,7 @@ digestOf h = take (h .len) (h .bytes)
 
 -- what a refusal answers in place of a digest
 abbrev pub zeroHash : Hash
-zeroHash = record { bytes = zeros 64; len = 0 }
+zeroHash = record { bytes = zeros longest; len = 0 }
 
 abbrev pub noHash : ℕ → HashAnswer
 noHash refusal = record { number = refusal; hash = zeroHash }

@@ -1,2 +1,3 @@
+pub mod Sizes
 pub mod Hash
 pub mod Output

@@ -94,7 +94,8 @@ module _ {W : Type 0} (bb : ℕ) (F : W → List ℕ → ℕ → Bool → Bool �
         let q = spare st 0 (length d) in
         let fits = spare-fits st 0 row (length d) q (le-refl q) in
         let left = spare-left st 0 row (length d) in
-        let e : picked bb st d (q + suc k) ≡ picked bb st d q ++ take bb (drop (st * q) d) = rw (picked-more bb st d q (suc k), picked-last bb st (drop (st * q) d) k (simp length-drop (omega arith))) in
+        let e : picked bb st d (q + suc k) ≡ picked bb st d q ++ take bb (drop (st * q) d) =
+        rw (picked-more bb st d q (suc k), picked-last bb st (drop (st * q) d) k (simp length-drop (omega arith))) in
         let l : length (picked bb st d q) ≡ bb * q = length-picked bb st d q (at-last d) in
         let r : length (take bb (drop (st * q) d)) ≡ min bb (length d - st * q) = simp (length-take, length-drop) in
         rw (e, length-append, l) (spare-is bb 0 block (bb * q + length (take bb (drop (st * q) d))) q (omega arith) (omega arith))

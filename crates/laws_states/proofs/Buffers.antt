@@ -80,7 +80,8 @@ module _ {L : Type 0} (m : Machine L) (lawful : Lawful m) where
   module _ {D : Type 0} (close : L → ℕ → List ℕ → D) (answers : Late m close) where
     open Late answers using (late)
 
-    pub close-moved : (s : Held L) (all b : List ℕ) (k : ℕ) → k ≤ spare (m .row) (m .need) (length all) → close (moved m s all k .at) (moved m s all k .count) (pending (moved m s all k) ++ b) ≡ close (s .at) (s .count) (all ++ b)
+    pub close-moved : (s : Held L) (all b : List ℕ) (k : ℕ) → k ≤ spare (m .row) (m .need) (length all)
+        → close (moved m s all k .at) (moved m s all k .count) (pending (moved m s all k) ++ b) ≡ close (s .at) (s .count) (all ++ b)
     unfolding moved
     close-moved s all b k h =
         let fits : m .row * k ≤ length all = spare-below (m .row) (m .need) some (length all) k h in
@@ -168,14 +169,16 @@ module _ {L : Type 0} (m : Machine L) (lawful : Lawful m) where
         let l : length (a ++ joined ps) ≡ length a + length (joined ps) = length-append a (joined ps) in
         omega arith
 
-  pub pushed-moved : (s : Held L) (all a : List ℕ) (k : ℕ) → m .row * k ≤ length all → pushed m (moved m s all k) a ≡ moved m s (all ++ a) (k + gone m (length all - m .row * k) (length all - m .row * k + length a))
+  pub pushed-moved : (s : Held L) (all a : List ℕ) (k : ℕ) → m .row * k ≤ length all
+      → pushed m (moved m s all k) a ≡ moved m s (all ++ a) (k + gone m (length all - m .row * k) (length all - m .row * k + length a))
   unfolding pushed
   pushed-moved s all a k fits =
       let j = gone m (length (drop (m .row * k) all)) (length (drop (m .row * k) all ++ a)) in
       rw (pending-moved s all k, moved-moved s all a k j fits, length-append, length-drop)
 
   -- any cuts leave the state of all the bytes with some rows gone
-  pub after-moved : (s : Held L) (all : List ℕ) (k : ℕ) (ps : List (List ℕ)) → k ≤ spare (m .row) (m .need) (length all) → (j : ℕ) × (j ≤ spare (m .row) (m .need) (length (all ++ joined ps))) × (after m (moved m s all k) ps ≡ moved m s (all ++ joined ps) j)
+  pub after-moved : (s : Held L) (all : List ℕ) (k : ℕ) (ps : List (List ℕ)) → k ≤ spare (m .row) (m .need) (length all)
+      → (j : ℕ) × (j ≤ spare (m .row) (m .need) (length (all ++ joined ps))) × (after m (moved m s all k) ps ≡ moved m s (all ++ joined ps) j)
   unfolding after joined
   after-moved s all k [] h = (k, rw append-nil h, rw append-nil)
   after-moved s all k (a ∷ ps) h =
@@ -204,11 +207,13 @@ module _ {L : Type 0} (m : Machine L) (lawful : Lawful m) where
     pushed-tight s a = rw gone-tight
 
     -- a move and then bytes
-    pub push-late : (s : Held L) (all b : List ℕ) (k : ℕ) → k ≤ spare (m .row) (m .need) (length (all ++ b)) → m .row * k ≤ length all → pushed m (moved m s all k) b ≡ moved m s (all ++ b) (spare (m .row) (m .need) (length (all ++ b)))
+    pub push-late : (s : Held L) (all b : List ℕ) (k : ℕ) → k ≤ spare (m .row) (m .need) (length (all ++ b)) → m .row * k ≤ length all
+        → pushed m (moved m s all k) b ≡ moved m s (all ++ b) (spare (m .row) (m .need) (length (all ++ b)))
     push-late s all b k h fits =
         let p = drop (m .row * k) all in
         let n : length (p ++ b) ≡ length (all ++ b) - m .row * k = simp (length-append, length-drop) (omega arith) in
-        rw (pushed-tight (moved m s all k) b, pending-moved s all k, moved-moved s all b k (spare (m .row) (m .need) (length (p ++ b))) fits, n, spare-late (m .row) (m .need) some (length (all ++ b)) k h)
+        rw (pushed-tight (moved m s all k) b, pending-moved s all k, moved-moved s all b k (spare (m .row) (m .need) (length (p ++ b))) fits, n)
+        (rw (spare-late (m .row) (m .need) some (length (all ++ b)) k h))
 
     -- THE law: the bytes of two updates are those of one
     pub pushed-pushed : (s : Held L) (a b : List ℕ) → pushed m (pushed m s a) b ≡ pushed m s (a ++ b)

@@ -62,7 +62,8 @@ module _ {S L : Type 0} (o : Store S L) (m : Machine L) (lawful : Lawful m) wher
       ∙ ap (holding s) (steps.straight m lawful (core s) (core g) (moved m (core g) (pending (core g) ++ drop n a) 0) a q n e h z (core-is s g (take n a) q hg) refl)
 
   -- the buffer is filled by the first of the bytes a, j rows of it go, and the rest comes
-  module _ (s : S) (a : List ℕ) (sound : Sound m (core s)) (more : m .room < core s .buflen + length a) (f : S) (filled : f ≡ holding s (moved m (core s) (pending (core s) ++ take (m .room - core s .buflen) a) 0)) where
+  module _ (s : S) (a : List ℕ) (sound : Sound m (core s)) (more : m .room < core s .buflen + length a)
+      (f : S) (filled : f ≡ holding s (moved m (core s) (pending (core s) ++ take (m .room - core s .buflen) a) 0)) where
     all-length : length (pending (core s) ++ take (m .room - core s .buflen) a) ≡ m .room
     all-length =
         let l = length-pending m lawful (core s) sound in

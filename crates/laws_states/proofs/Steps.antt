@@ -40,7 +40,8 @@ module _ {L : Type 0} (m : Machine L) (lawful : Lawful m) where
   gone-few (suc p) n h = rw (le-leb n (m .room) (omega (arith, wide)))
 
   -- bytes are stored behind those that wait
-  pub stored : (s : Held L) (a r : List ℕ) → Sound m s → r ≡ paste (s .buf) (s .buflen) a (length a) → record { at = s .at; count = s .count; buf = r; buflen = s .buflen + length a } ≡ moved m s (pending s ++ a) 0
+  pub stored : (s : Held L) (a r : List ℕ) → Sound m s → r ≡ paste (s .buf) (s .buflen) a (length a)
+      → record { at = s .at; count = s .count; buf = r; buflen = s .buflen + length a } ≡ moved m s (pending s ++ a) 0
   unfolding moved over behind pending
   stored s a r h e =
       let l : length (take (s .buflen) (s .buf) ++ a) ≡ s .buflen + length a = rw (length-append (take (s .buflen) (s .buf)) a, length-take-le (s .buflen) (s .buf) (omega arith)) in
@@ -49,13 +50,16 @@ module _ {L : Type 0} (m : Machine L) (lawful : Lawful m) where
       rw (z, y, e, take-length a, add-zero, sub-zero, l, run-none)
 
   -- k rows go, and what stays is stored over zeros
-  pub kept : (s : Held L) (all : List ℕ) (w : L) (b : List ℕ) (k : ℕ) → 0 < k → w ≡ m .run (s .at) (s .count) all k → b ≡ paste (zeros (m .room)) 0 (drop (m .row * k) all) (length (drop (m .row * k) all)) → record { at = w; count = s .count + m .step * k; buf = b; buflen = length all - m .row * k } ≡ moved m s all k
+  pub kept : (s : Held L) (all : List ℕ) (w : L) (b : List ℕ) (k : ℕ) → 0 < k → w ≡ m .run (s .at) (s .count) all k
+      → b ≡ paste (zeros (m .room)) 0 (drop (m .row * k) all) (length (drop (m .row * k) all))
+      → record { at = w; count = s .count + m .step * k; buf = b; buflen = length all - m .row * k } ≡ moved m s all k
   unfolding moved over behind
   kept s all w b zero g e f = absurd (not-suc-le-zero g)
   kept s all w b (suc k) g e f = rw (e, f, take-length, zero-add)
 
   -- whole rows go, and nothing stays
-  pub emptied : (s : Held L) (all : List ℕ) (w : L) (b : List ℕ) (k : ℕ) → 0 < k → length all ≡ m .row * k → w ≡ m .run (s .at) (s .count) all k → b ≡ zeros (m .room) → record { at = w; count = s .count + m .step * k; buf = b; buflen = 0 } ≡ moved m s all k
+  pub emptied : (s : Held L) (all : List ℕ) (w : L) (b : List ℕ) (k : ℕ) → 0 < k → length all ≡ m .row * k → w ≡ m .run (s .at) (s .count) all k
+      → b ≡ zeros (m .room) → record { at = w; count = s .count + m .step * k; buf = b; buflen = 0 } ≡ moved m s all k
   unfolding moved over behind
   emptied s all w b zero g h e f = absurd (not-suc-le-zero g)
   emptied s all w b (suc k) g h e f =
@@ -73,14 +77,17 @@ module _ {L : Type 0} (m : Machine L) (lawful : Lawful m) where
   idle s (x ∷ a) h g = absurd (suc-ne-zero (length a) g)
 
   -- the buffer is filled, j rows of it go, and then comes the rest
-  pub spilled : (s f e r : Held L) (x y : List ℕ) (j q : ℕ) → f ≡ moved m s (pending s ++ x) 0 → e ≡ moved m f (pending f) j → r ≡ moved m e (pending e ++ y) q → m .row * j ≤ length (pending s ++ x) → r ≡ moved m s (pending s ++ (x ++ y)) (j + q)
+  pub spilled : (s f e r : Held L) (x y : List ℕ) (j q : ℕ)
+      → f ≡ moved m s (pending s ++ x) 0 → e ≡ moved m f (pending f) j → r ≡ moved m e (pending e ++ y) q
+      → m .row * j ≤ length (pending s ++ x) → r ≡ moved m s (pending s ++ (x ++ y)) (j + q)
   spilled s f e r x y j q hf he hr h =
       let all = pending s ++ x in
       let g : e ≡ moved m s all j = rw (he, hf) (rw (append-nil, append-nil, zero-add) at (moved-on s all [] 0 j (omega arith))) in
       rw (hr, g, moved-on s all y j q h, append-assoc (pending s) x y)
 
   -- nothing waits: rows go straight from the input, and then comes the rest
-  pub straight : (s g r : Held L) (a : List ℕ) (q n : ℕ) → n ≡ m .row * q → n ≤ length a → pending s ≡ [] → g ≡ moved m s (take n a) q → r ≡ moved m g (pending g ++ drop n a) 0 → r ≡ moved m s (pending s ++ a) q
+  pub straight : (s g r : Held L) (a : List ℕ) (q n : ℕ) → n ≡ m .row * q → n ≤ length a → pending s ≡ []
+      → g ≡ moved m s (take n a) q → r ≡ moved m g (pending g ++ drop n a) 0 → r ≡ moved m s (pending s ++ a) q
   straight s g r a q n e h none hg hr =
       let l : length (take n a) ≡ n = length-take-le n a h in
       rw (hr, hg, moved-on s (take n a) (drop n a) q 0 (omega arith), take-append-drop n a, add-zero, none)

@@ -35,7 +35,8 @@ module _ {L : Type 0} (m : Machine L) (lawful : Lawful m) (two : m .room ≡ 2 *
   unfolding pending
   all-held = take-all (s .buflen) (s .buf) (omega arith)
 
-  pub both-gone : {l : L} {b : List ℕ} → l ≡ m .run (s .at) (s .count) (s .buf) 2 → b ≡ zeros (m .room) → record { at = l; count = s .count + m .step * 2; buf = b; buflen = 0 } ≡ moved m s (pending s) 2
+  pub both-gone : {l : L} {b : List ℕ} → l ≡ m .run (s .at) (s .count) (s .buf) 2 → b ≡ zeros (m .room)
+      → record { at = l; count = s .count + m .step * 2; buf = b; buflen = 0 } ≡ moved m s (pending s) 2
   both-gone {l} {b} e f = rw all-held (emptied m lawful s (s .buf) l b 2 (omega arith) (omega arith) e f)
 
   pub half-gone : {l : L} {z b : List ℕ} → l ≡ m .run (s .at) (s .count) (take (m .row) (s .buf)) 1 → z ≡ zeros (m .room)
@@ -44,14 +45,17 @@ module _ {L : Type 0} (m : Machine L) (lawful : Lawful m) (two : m .room ≡ 2 *
   half-gone {l} {z} {b} e f g =
       let front : length (take (m .row) (s .buf)) ≡ m .row = length-take-le (m .row) (s .buf) (omega arith) in
       let first : l ≡ m .run (s .at) (s .count) (s .buf) 1 =
-      e ∙ sym (run-front (s .at) (s .count) (take (m .row) (s .buf)) (drop (m .row) (s .buf)) 1 (omega arith)) ∙ ap (λ (d : List ℕ). m .run (s .at) (s .count) d 1) (take-append-drop (m .row) (s .buf)) in
+      e ∙ sym (run-front (s .at) (s .count) (take (m .row) (s .buf)) (drop (m .row) (s .buf)) 1 (omega arith))
+      ∙ ap (λ (d : List ℕ). m .run (s .at) (s .count) d 1) (take-append-drop (m .row) (s .buf)) in
       let one : m .row * 1 ≡ m .row = omega arith in
       let back : take (m .row) (drop (m .row) (s .buf)) ≡ drop (m .row * 1) (s .buf) =
       take-all (m .row) (drop (m .row) (s .buf)) (rw length-drop (omega arith)) ∙ ap (λ (k : ℕ). drop k (s .buf)) (sym one) in
       let second : b ≡ paste (zeros (m .room)) 0 (drop (m .row * 1) (s .buf)) (length (drop (m .row * 1) (s .buf))) =
       g ∙ (λ i. paste (f i) 0 (back i) (length (back i))) in
       let stays : m .row ≡ length (s .buf) - m .row * 1 = omega arith in
-      (λ i. record { at = l; count = s .count + m .step * 1; buf = b; buflen = stays i }) ∙ kept m lawful s (s .buf) l b 1 (omega arith) first second ∙ ap (λ (d : List ℕ). moved m s d 1) (sym all-held)
+      (λ i. record { at = l; count = s .count + m .step * 1; buf = b; buflen = stays i })
+      ∙ kept m lawful s (s .buf) l b 1 (omega arith) first second
+      ∙ ap (λ (d : List ℕ). moved m s d 1) (sym all-held)
 
 -- a buffer that is zero behind its bytes stays so, whatever goes
 module _ {L : Type 0} (m : Machine L) (lawful : Lawful m) where

@@ -15,8 +15,8 @@ use Rattle.laws_states.specs.Buffer.{Held, joined}
 use Rattle.laws_states.specs.Buffer as buffer
 use Rattle.laws_states.proofs.Buffers.{Sound}
 use Rattle.laws_states.proofs.TwoRows as rows
-use Rattle.refusals.specs.Numbers.{total-over}
-use Rattle.members.specs.Keeper.{isLength, totalOf, keyRow, Keeper, pending, pushed, total, inRange, closedDigest, updated, finalized, counts, stateTaker}
+use Rattle.refusals.specs.Numbers.{total-over, isLength}
+use Rattle.members.specs.Keeper.{totalOf, keyRow, Keeper, pending, pushed, total, inRange, closedDigest, updated, finalized, counts, stateTaker}
 use Rattle.members.specs.Member.{Member, limit, reached}
 use Rattle.members.proofs.Laws.{Laws, Begun}
 use Rattle.members.proofs.Pieces.{core-pieces, key-pieces, closed-pieces, total-pieces, range-pieces, next-is-pushed}

@@ -9,7 +9,8 @@ use Rattle.definitions.specs.Words.{pad}
 use Rattle.laws_states.specs.Buffer.{Held}
 use Rattle.laws_states.proofs.Buffers.{Lawful, Late}
 use Rattle.laws_states.proofs.Lifts.{Store}
-use Rattle.members.specs.Keeper.{isLength, keyRow, Keeper}
+use Rattle.refusals.specs.Numbers.{isLength}
+use Rattle.members.specs.Keeper.{keyRow, Keeper}
 use Rattle.members.specs.Member.{Member, limit}
 
 pub record KeeperLaws {S L : Type 0} (k : Keeper S L) : Type 0 where

@@ -73,7 +73,8 @@ module _ {S L : Type 0} (m : Keeper S L) (laws : KeeperLaws m) (s : S) where
       taken-spill more f = f ∙ ap (holding s) (sym (steps.pushed-most machine lawful (core s) a sound more))
 
       -- where the buffer holds no more than must stay, and a row
-      pub taken-tight : machine .room ≤ machine .need + machine .row → (k : ℕ) → k ≡ spare (machine .row) (machine .need) (core s .buflen + length a) → r ≡ moved m s (pending m s ++ a) k → r ≡ pushed m s a
+      pub taken-tight : machine .room ≤ machine .need + machine .row → (k : ℕ) → k ≡ spare (machine .row) (machine .need) (core s .buflen + length a)
+          → r ≡ moved m s (pending m s ++ a) k → r ≡ pushed m s a
       taken-tight tight k h f =
           let l : length (pending m s ++ a) ≡ core s .buflen + length a = rw (length-append (pending m s) a, buffers.length-pending machine lawful (core s) sound) in
           f ∙ (λ i. moved m s (pending m s ++ a) ((h ∙ ap (spare (machine .row) (machine .need)) (sym l)) i)) ∙ ap (holding s) (sym (buffers.pushed-tight machine lawful tight (core s) a))

@@ -10,7 +10,8 @@ use Rattle.laws_states.proofs.Buffers.{Sound}
 use Rattle.refusals.specs.Numbers.{accepted, total-over}
 use Rattle.refusals.proofs.Picks.{tested-ap}
 use Rattle.members.specs.Row.{Call, answers, digested, counted, row}
-use Rattle.members.specs.Keeper.{keyRow, Keeper, Reads, pushed, total, inRange, closedDigest, askTests, updateTests, finalized, counts, updated, stateTaker, update-answer, hash-answer, count-answer, taker}
+use Rattle.members.specs.Keeper.{keyRow, Keeper, pushed, total, inRange, closedDigest, askTests, updateTests, finalized, counts, updated, stateTaker}
+use Rattle.members.specs.Keeper.{Reads, update-answer, hash-answer, count-answer, taker}
 use Rattle.members.specs.Member.{Member, limit, reached, rowTaker, one-shot-answer}
 use Rattle.members.proofs.Laws.{KeeperLaws, Laws, Begun}
 use Rattle.members.proofs.Pieces as pieces

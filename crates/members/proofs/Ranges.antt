@@ -5,7 +5,8 @@ use mathlib.Core.Bool.{Bool, true, false, not, _&&_, and-eq-true-iff}
 use Prim.Native.Nat.{ℕ, _<_, _≤_}
 use borrow.Author.Tests.{not-true, not-false, le-leb, lt-leb, leb-true}
 use lib.Dec.{leb}
-use Rattle.members.specs.Keeper.{Bounds, isLength, totalOf, keyRow, rangeOf, Keeper, inRange}
+use Rattle.refusals.specs.Numbers.{isLength}
+use Rattle.members.specs.Keeper.{Bounds, totalOf, keyRow, rangeOf, Keeper, inRange}
 
 module _ (z : Bounds) (n b t : ℕ) (keyed : Bool) where
   module _ {q : Bool} (e : q ≡ isLength (z .most) n) where

@@ -7,7 +7,7 @@ use lib.Dec.{leb}
 use lib.ListN.{length}
 use Rattle.laws_states.specs.Buffer.{Machine, Held}
 use Rattle.laws_states.specs.Buffer as buffer
-use Rattle.refusals.specs.Numbers.{accepted, total-over, bad-record}
+use Rattle.refusals.specs.Numbers.{accepted, total-over, bad-record, isLength}
 use Rattle.refusals.specs.Tests.{Test, test, tested}
 use Rattle.members.specs.Row.{Answer, digested, counted, Taker}
 
@@ -18,9 +18,6 @@ pub record Bounds : Type 0 where
   pub unit : ℕ
   pub key : ℕ
   pub limit : ℕ
-
-abbrev pub isLength : ℕ → ℕ → Bool
-isLength most n = leb 1 n && leb n most
 
 module _ (z : Bounds) where
   -- message bytes and key block bytes, of a count and the bytes buffered

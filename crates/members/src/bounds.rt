@@ -3,8 +3,8 @@
 use refusals::LIMIT;
 ghost use mathlib.Core.Path.{_≡_};
 ghost use Prim.Native.Nat.{_<_};
-ghost use Rattle.refusals.specs.Numbers.{limit};
-ghost use Rattle.members.specs.Keeper.{isLength, rangeOf};
+ghost use Rattle.refusals.specs.Numbers.{limit, isLength};
+ghost use Rattle.members.specs.Keeper.{rangeOf};
 
 fn is_length(most: usize, n: usize) -> bool
     ensures { λ r. ⌜ r ≡ isLength most n ⌝ }

@@ -1,5 +1,5 @@
--- Document 01's numbers: the refusals, in its order, the limit of a total, and when a piece lies inside its data. crates/refusals/src has the same.
--- Assumes nothing.
+-- Document 01's numbers: the refusals, in its order, the limit of a total, when a piece lies inside its data, and which lengths a digest has.
+-- crates/refusals/src has the same, but for the last. Assumes nothing.
 use mathlib.Core.Bool.{Bool, _&&_}
 use Prim.Native.Nat.{ℕ, _-_, _^_}
 use lib.Dec.{ltb, leb}
@@ -71,3 +71,7 @@ limit = 2 ^ 64 - 1
 -- whether a piece lies inside data of n bytes: it starts in front of their end, and is no longer than what is left
 unfoldable pub pieceOk : ℕ → ℕ → ℕ → Bool
 pieceOk start length n = ltb start n && leb length (n - start)
+
+-- a digest has 1 byte to the most that its member makes
+abbrev pub isLength : ℕ → ℕ → Bool
+isLength most n = leb 1 n && leb n most

@@ -17,10 +17,11 @@ use Rattle.blake2b.proofs.Plain.{length-of-digest}
 use Rattle.report_text.specs.Ascii.{ascii}
 use Rattle.report_text.specs.Lines.{decimal, spelled, line, lengthLines, fiveLines, unreadable}
 use Rattle.report_text.specs.Reads.{Read, bytesOf, noneFailed, reported, printed}
+use Rattle.blake2b_state.specs.Sizes.{outbytes}
 use Rattle.report_text.proofs.Appending.{length-line}
 use Rattle.report_text.proofs.Decimals.{at-most-twenty}
 
-length-lengths : length (lengthLines 64 0) ≡ 40
+length-lengths : length (lengthLines outbytes 0) ≡ 40
 unfolding lengthLines line spelled
 length-lengths = refl
 
@@ -31,11 +32,11 @@ length-unreadable = refl
 length-reported : (m : List ℕ) → length m ≤ limit → length (reported m) ≤ 203
 unfolding fiveLines limit
 length-reported m few =
-    let d = blake2 BLAKE2b 64 [] m in
+    let d = blake2 BLAKE2b outbytes [] m in
     let count = line (ascii "count") (decimal (length m)) in
     let digest = line (ascii "digest") (hexOf d) in
-    let a = length-append (lengthLines 64 0 ++ count) digest in
-    let b = length-append (lengthLines 64 0) count in
+    let a = length-append (lengthLines outbytes 0 ++ count) digest in
+    let b = length-append (lengthLines outbytes 0) count in
     let l = length-lengths in
     let c : length count ≡ 5 + length (decimal (length m)) + 2 = length-line (ascii "count") (decimal (length m)) in
     let e : length digest ≡ 6 + length (hexOf d) + 2 = length-line (ascii "digest") (hexOf d) in

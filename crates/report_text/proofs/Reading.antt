@@ -14,6 +14,7 @@ use Rattle.refusals.specs.Numbers.{accepted, total-over, limit}
 use Rattle.hash.specs.Hash.{digestOf}
 use Rattle.blake2b.specs.Params.{defaults}
 use Rattle.members.specs.Row.{Answer, Row, row}
+use Rattle.blake2b_state.specs.Sizes.{outbytes}
 use Rattle.blake2b_state.specs.State.{stateInRange, updated, finalized, counted}
 use Rattle.blake2b.specs.Row.{rowTaker}
 use Rattle.blake2b.specs.declared.params.Params.{Params}
@@ -45,13 +46,13 @@ module _ (bs : List ℕ) (few : length bs ≤ limit) where
   in-range : stateInRange (reached bs) ≡ true
   in-range = range-reached (rowOf bs) kept
 
-  digest-is : digestOf (finalized (reached bs) .hash) ≡ blake2 BLAKE2b 64 [] bs
+  digest-is : digestOf (finalized (reached bs) .hash) ≡ blake2 BLAKE2b outbytes [] bs
   digest-is = ap (λ (a : Answer). a .bytes) (says-digest (rowOf bs) kept) ∙ hash-plain bs
 
   count-is : counted (reached bs) .count ≡ length bs
   count-is = ap (λ (a : Answer). a .value) (says-count (rowOf bs) kept)
 
-  length-is : length (digestOf (finalized (reached bs) .hash)) ≡ 64
+  length-is : length (digestOf (finalized (reached bs) .hash)) ≡ outbytes
   length-is = ap length digest-is ∙ length-of-digest bs
 
   lines-reached : linesOf (holding bs true) ≡ reported bs

@@ -18,7 +18,6 @@ use mir.Facts.{toZ-ofZ}
 use Rattle.io.specs.Counts.{clamped}
 use Rattle.report_text.specs.Reads.{afterReads, came}
 use Rattle.report_text.specs.Report.{taken, failed, afterReading}
-use Rattle.report_text.specs.declared.report.Reading.{Reading}
 use Rattle.report_text.specs.declared.report.Report.{Report}
 
 -- no more than there is can be taken
@@ -61,7 +60,8 @@ module _ (r : Report) (buffer : List ℕ) where
   pub read-ended : (z : ℤ) → SFits w64 z → ltZ (toZ w64 (ofZ w64 z)) (pos 0) ≡ false → ofZ w64 z ≡ 0 → record { report = r; more = false } ≡ afterReading r z buffer
   read-ended z fits test none = ended-at z (sign fits test) none
 
-  took : (z : ℤ) {n : ℕ} {q : Report} → ltZ z (pos 0) ≡ false → (ofZ w64 z ≡ 0 → ⊥) → n ≡ clamped z (length buffer) → q ≡ taken r (take n buffer) → record { report = q; more = true } ≡ afterReading r z buffer
+  took : (z : ℤ) {n : ℕ} {q : Report} → ltZ z (pos 0) ≡ false → (ofZ w64 z ≡ 0 → ⊥) → n ≡ clamped z (length buffer)
+      → q ≡ taken r (take n buffer) → record { report = q; more = true } ≡ afterReading r z buffer
   unfolding afterReading
   took (pos zero) above some e f = absurd (some refl)
   took (pos (suc k)) above some e f = λ i. record { report = (f ∙ ap (λ (a : List ℕ). taken r a) (ap (λ (m : ℕ). take m buffer) e ∙ take-least (suc k) buffer)) i; more = true }

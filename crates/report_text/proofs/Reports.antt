@@ -11,6 +11,7 @@ use lib.ListN.{length, take, drop}
 use lib.Seq.{take-append-seam}
 use Rattle.laws_words.specs.Bytes.{over}
 use Rattle.refusals.specs.Numbers.{accepted, bad-record}
+use Rattle.hash.specs.Sizes.{longest, longestHex}
 use Rattle.hash.specs.Hash.{hashInRange, digestOf, hexOf, lengthAnswered, writtenAnswered}
 use Rattle.hash.specs.Hash as hashes
 use Rattle.blake2b_state.specs.State.{stateInRange, updated, finalized, counted, closedDigest, bounds}
@@ -20,7 +21,7 @@ use Rattle.hash.specs.declared.LengthAnswer.{LengthAnswer}
 use Rattle.blake2b_state.specs.declared.state.State.{State}
 use Rattle.blake2b_state.specs.declared.state.StateAnswer.{StateAnswer}
 use Rattle.blake2b_state.specs.declared.state.CountAnswer.{CountAnswer}
-use Rattle.hash.proofs.Digests.{digest-length-bounds, hash-in-range, length-hex, length-digest, length-known}
+use Rattle.hash.proofs.Digests.{hash-in-range, length-digest, hex-length, hex-within, length-known}
 use Rattle.hash.proofs.Outputs.{room-enough, answered-good, over-good}
 use Rattle.members.proofs.Ranges.{in-range}
 use Rattle.blake2b_state.proofs.Lengths.{length-closed-digest}
@@ -40,17 +41,12 @@ module _ (r : Report) (a : List ℕ) {u : StateAnswer} (e : u ≡ updated (r .st
   taken-unreadable h = rw h (ap (λ (v : StateAnswer). record { state = v .state; readable = false }) e)
 
 -- a digest that is in range
-module _ (h : Hash) (whole : length (h .bytes) ≡ 64) (good : hashInRange h ≡ true) where
-  pub digest-fits : length (hexOf (digestOf h)) ≤ 128
-  unfolding hashInRange
-  digest-fits =
-      let b = digest-length-bounds (h .len) good in
-      let n = length-digest h whole good in
-      let x = length-hex (digestOf h) in
-      omega arith
+module _ (h : Hash) (whole : length (h .bytes) ≡ longest) (good : hashInRange h ≡ true) where
+  pub digest-fits : length (hexOf (digestOf h)) ≤ longestHex
+  digest-fits = rw (hex-length h whole good) (hex-within h whole good)
 
-  -- in hexadecimal, in front of a buffer of 128 bytes
-  pub hex-written : (space now : List ℕ) {a : LengthAnswer} → length space ≡ 128 → a ≡ writtenAnswered h (length (hexOf (digestOf h))) (length space)
+  -- in hexadecimal, in front of a buffer that takes the longest
+  pub hex-written : (space now : List ℕ) {a : LengthAnswer} → length space ≡ longestHex → a ≡ writtenAnswered h (length (hexOf (digestOf h))) (length space)
       → now ≡ hashes.writtenOver h (hexOf (digestOf h)) space → (a .length ≡ length (hexOf (digestOf h))) × (take (a .length) now ≡ hexOf (digestOf h))
   unfolding over
   hex-written space now {a} l e f =

@@ -12,6 +12,7 @@ use Rattle.refusals.specs.Numbers.{limit}
 use Rattle.report_text.specs.Lines.{fiveLines, unreadable}
 use Rattle.report_text.specs.Report.{taken, failed}
 use Rattle.report_text.specs.declared.report.Report.{Report}
+use Rattle.blake2b_state.specs.Sizes.{outbytes}
 
 pub data Read : Type 0 where
   piece : List ℕ → Read
@@ -46,7 +47,7 @@ noneFailed (failure ∷ xs) = false
 
 -- five lines of a message, by RFC 7693: no key, and 64 bytes of digest
 abbrev pub reported : List ℕ → List ℕ
-reported m = fiveLines 64 0 (length m) (blake2 BLAKE2b 64 [] m)
+reported m = fiveLines outbytes 0 (length m) (blake2 BLAKE2b outbytes [] m)
 
 -- what is printed: the one line where a read failed, or more came than a total may be
 unfoldable pub printed : List Read → List ℕ

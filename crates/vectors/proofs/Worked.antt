@@ -72,7 +72,9 @@ unfolding sizes share leafData
 leaves-hold k n a e key m hk hm =
     map-same (λ i. length (leafData BLAKE2b 4 key m i)) (λ i. head k + sum (λ j. min block (length m - (i + 4 * j) * block)) (from 0 (suc (length m / (4 * block)))))
     (λ i. length-keyed k key (share block 4 m i) hk
-    ∙ ap (λ (x : ℕ). head k + x) (length-flat (λ j. part block m (i + 4 * j)) (λ j. min block (length m - (i + 4 * j) * block)) (λ j. length-part block m (i + 4 * j)) (from 0 (suc (length m / (4 * block))))))
+    ∙ ap (λ (x : ℕ). head k + x)
+    (length-flat (λ j. part block m (i + 4 * j)) (λ j. min block (length m - (i + 4 * j) * block))
+    (λ j. length-part block m (i + 4 * j)) (from 0 (suc (length m / (4 * block))))))
     (from 0 4)
     ∙ ap (sizes k) hm ∙ e
 

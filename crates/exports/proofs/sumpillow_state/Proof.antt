@@ -12,6 +12,7 @@ use Rattle.definitions.specs.Hash.{blake2}
 use Rattle.refusals.specs.Numbers.{limit}
 use Rattle.hash.specs.declared.HashAnswer.{HashAnswer}
 use Rattle.hash.proofs.Outputs.{written-output}
+use Rattle.blake2b_state.specs.Sizes.{outbytes}
 use Rattle.blake2b_state.specs.State.{updated, finalized}
 use Rattle.blake2b_state.specs.declared.state.State.{State}
 use Rattle.blake2b_state.specs.declared.state.StateAnswer.{StateAnswer}
@@ -32,7 +33,7 @@ returns c =
     let m = now (s .args .input) in
     let taken = u .update .ensures ∙ ap (λ (t : State). updated t m) (n .new .ensures ∙ new-is-default) in
     let done = f .finalize .ensures ∙ ap (λ (t : StateAnswer). finalized (t .state)) taken in
-    written-output (blake2 BLAKE2b 64 [] m) (now (s .args .out)) 64 (omega arith) (omega arith) (length-of-digest m)
+    written-output (blake2 BLAKE2b outbytes [] m) (now (s .args .out)) outbytes (omega arith) (omega arith) (length-of-digest m)
     (ap (λ (t : HashAnswer). t .hash) done ∙ finalized-plain m (few s)) (c .before .before .write-bytes .ensures)
 
 pub sumpillow-state-spec : {M : Type 1} → statement M

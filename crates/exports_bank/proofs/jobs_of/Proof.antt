@@ -12,4 +12,9 @@ abbrev μ-loop : tie.MeasureT-loop
 μ-loop input jobs₀ i₀ jobs i = 16 - i
 
 pub jobs-of-spec : {M : Type 1} → statement M
-jobs-of-spec = tie.close (tie.spec Inv-loop μ-loop (search needs) (search needs) (search needs) (search needs) (search needs) (search needs) (search needs) (search needs) (search needs) (search needs))
+jobs-of-spec =
+    tie.close
+    (tie.spec
+    Inv-loop
+    μ-loop
+    (search needs) (search needs) (search needs) (search needs) (search needs) (search needs) (search needs) (search needs) (search needs) (search needs))

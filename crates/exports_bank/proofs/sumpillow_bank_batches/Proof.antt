@@ -12,4 +12,9 @@ abbrev μ-loop : tie.MeasureT-loop
 μ-loop input records times slot out pieces bank₀ i₀ bank i = times - i
 
 pub sumpillow-bank-batches-spec : {M : Type 1} → statement M
-sumpillow-bank-batches-spec = tie.close (tie.spec Inv-loop μ-loop (search needs) (search needs) (search needs) (search needs) (search needs) (search needs) (search needs) (search needs) (search needs) (search needs))
+sumpillow-bank-batches-spec =
+    tie.close
+    (tie.spec
+    Inv-loop
+    μ-loop
+    (search needs) (search needs) (search needs) (search needs) (search needs) (search needs) (search needs) (search needs) (search needs) (search needs))

@@ -12,4 +12,9 @@ abbrev μ-loop : tie.MeasureT-loop
 μ-loop input times slot out bank₀ i₀ bank i = times - i
 
 pub sumpillow-bank-updates-spec : {M : Type 1} → statement M
-sumpillow-bank-updates-spec = tie.close (tie.spec Inv-loop μ-loop (search needs) (search needs) (search needs) (search needs) (search needs) (search needs) (search needs) (search needs) (search needs))
+sumpillow-bank-updates-spec =
+    tie.close
+    (tie.spec
+    Inv-loop
+    μ-loop
+    (search needs) (search needs) (search needs) (search needs) (search needs) (search needs) (search needs) (search needs) (search needs))

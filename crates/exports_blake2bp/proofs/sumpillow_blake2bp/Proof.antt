@@ -8,6 +8,7 @@ use denote.Ref.{now}
 use Rattle.definitions.specs.Tree.{BLAKE2bp}
 use Rattle.hash.specs.Hash.{hashOf}
 use Rattle.hash.proofs.Outputs.{written-output}
+use Rattle.blake2bp_leaves.specs.Sizes.{outbytes}
 use Rattle.blake2bp.proofs.Plain.{digest-plain, length-of-digest}
 use Rattle.exports_blake2bp.proofs.sumpillow_blake2bp.Statement.{statement}
 use Rattle.exports_blake2bp.proofs.sumpillow_blake2bp.Tie as tie
@@ -17,7 +18,8 @@ returns c =
     let b = c .before .before .before .before in
     let a = b .before .before .before .args in
     let m = now (a .input) in
-    written-output (BLAKE2bp 64 [] m) (now (a .out)) 64 (omega arith) (omega arith) (length-of-digest m) (b .blake2bp .ensures ∙ ap hashOf (digest-plain m)) (c .before .before .write-bytes .ensures)
+    written-output (BLAKE2bp outbytes [] m) (now (a .out)) outbytes (omega arith) (omega arith) (length-of-digest m)
+    (b .blake2bp .ensures ∙ ap hashOf (digest-plain m)) (c .before .before .write-bytes .ensures)
 
 pub sumpillow-blake2bp-spec : {M : Type 1} → statement M
 sumpillow-blake2bp-spec = tie.close (tie.spec (search needs) (search needs) (search needs) returns)

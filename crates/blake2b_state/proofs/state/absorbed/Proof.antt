@@ -15,15 +15,16 @@ use mathlib.Core.Bool.{false}
 use mathlib.Core.List.{List}
 use native.Mathlib.Nat.{not-suc-le-zero}
 use borrow.Author.Needs.{needs}
+use Rattle.blake2b_state.specs.Sizes.{blockbytes}
 use Rattle.blake2b_state.proofs.state.absorbed.Statement.{statement}
 use Rattle.blake2b_state.proofs.state.absorbed.Tie as tie
 
-whole : (w : List ℕ) (t : ℕ) (d : List ℕ) (k : ℕ) → 0 < k → length d ≡ 128 * k → throughBlocks BLAKE2b 128 w t false false d ≡ absorb 128 (onBytes BLAKE2b) 128 w t d k
+whole : (w : List ℕ) (t : ℕ) (d : List ℕ) (k : ℕ) → 0 < k → length d ≡ blockbytes * k → throughBlocks BLAKE2b blockbytes w t false false d ≡ absorb blockbytes (onBytes BLAKE2b) blockbytes w t d k
 unfolding blockAt
 whole w t d zero h e = absurd (not-suc-le-zero h)
 whole w t d (suc k) h e =
-    through-whole 128 (onBytes BLAKE2b) 128 w t d k (spare-is 128 0 (omega arith) (length d) k (omega arith) (omega arith))
-    (length-take-le 128 (drop (128 * k) d) (rw length-drop (omega arith)))
+    through-whole blockbytes (onBytes BLAKE2b) blockbytes w t d k (spare-is blockbytes 0 (omega arith) (length d) k (omega arith) (omega arith))
+    (length-take-le blockbytes (drop (blockbytes * k) d) (rw length-drop (omega arith)))
 
 returns : tie.Need-returns
 returns c =

@@ -9,7 +9,7 @@ use Rattle.definitions.specs.Hash.{stateBytes}
 use Rattle.laws_blocks.specs.Blocks.{throughBlocks}
 use Rattle.laws_states.specs.Leaves.{rooted}
 use Rattle.hash.specs.Hash.{madeFrom}
-use Rattle.blake2bp_leaves.proofs.Sizes.{block}
+use Rattle.blake2bp_leaves.specs.Sizes.{blockbytes}
 use Rattle.blake2bp_leaves.proofs.Turns.{flat-words}
 use borrow.Author.Needs.{needs}
 use Rattle.blake2bp_leaves.proofs.leaves.finalize_root_words.Statement.{statement}
@@ -22,7 +22,7 @@ returns c =
     let run = d .before .before in
     let l = run .before .before in
     let a = l .before .args in
-    let words = run .compress1-loop .ensures ∙ ap (throughBlocks BLAKE2b block (a .root-words) 0 true true) (l .leaf-bytes .ensures ∙ flat-words (a .leaves)) in
+    let words = run .compress1-loop .ensures ∙ ap (throughBlocks BLAKE2b blockbytes (a .root-words) 0 true true) (l .leaf-bytes .ensures ∙ flat-words (a .leaves)) in
     c .from-state .ensures ∙ ap (λ (b : List ℕ). madeFrom b (a .hash-length)) (d .write-words .ensures ∙ ap (stateBytes BLAKE2b) words)
 
 pub finalize-root-words-spec : {M : Type 1} → statement M

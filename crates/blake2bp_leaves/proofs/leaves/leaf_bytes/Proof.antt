@@ -12,7 +12,7 @@ use Rattle.laws_words.proofs.Bytes.{pad-whole}
 use Rattle.laws_words.proofs.Stores.{pad-none}
 use Rattle.laws_states.proofs.Pastes.{flat-more}
 use Rattle.blake2bp_leaves.specs.Leaves.{stateOf}
-use Rattle.blake2bp_leaves.proofs.Sizes.{degree, digest, digests}
+use Rattle.blake2bp_leaves.specs.Sizes.{degree, outbytes, leavesbytes}
 use Rattle.blake2bp_leaves.proofs.Turns.{filled-turn}
 use Rattle.blake2bp_leaves.proofs.leaves.leaf_bytes.Statement.{statement}
 use Rattle.blake2bp_leaves.proofs.leaves.leaf_bytes.Tie as tie
@@ -20,7 +20,7 @@ use Rattle.blake2bp_leaves.proofs.leaves.leaf_bytes.Tie as tie
 abbrev Inv-loop : tie.InvT-loop
 Inv-loop leaves block₀ i₀ block i =
     let front = flatMap stateOf (take i leaves) in
-    (i ≤ degree) × (length block ≡ digests) × (length front ≡ i * digest) × (block ≡ pad digests front)
+    (i ≤ degree) × (length block ≡ leavesbytes) × (length front ≡ i * outbytes) × (block ≡ pad leavesbytes front)
 
 abbrev μ-loop : tie.MeasureT-loop
 μ-loop leaves block₀ i₀ block i = degree - i
@@ -28,12 +28,12 @@ abbrev μ-loop : tie.MeasureT-loop
 all-leaves : (c : tie.Start Inv-loop μ-loop) → length (c .args .t1) ≡ degree
 all-leaves c = search needs
 
-whole : (c : tie.After-write-words Inv-loop μ-loop) → length (c .write-words .result) ≡ digest
+whole : (c : tie.After-write-words Inv-loop μ-loop) → length (c .write-words .result) ≡ outbytes
 whole c = search needs
 
 loop-holds : tie.Need-loop-holds Inv-loop μ-loop
 unfolding flatMap
-loop-holds c = (omega arith, search needs, refl, c .zero-states .ensures ∙ sym (pad-none digests))
+loop-holds c = (omega arith, search needs, refl, c .zero-states .ensures ∙ sym (pad-none leavesbytes))
 
 part-store-end : tie.Need-part-store-end Inv-loop μ-loop
 part-store-end c = let n = whole (c .before .before) in omega arith
@@ -53,12 +53,12 @@ loop-again c =
     let ls = s .args .t1 in
     let n = whole w in
     let b = w .write-words .result in
-    let all : take digest b ≡ b = take-all digest b (omega arith) in
+    let all : take outbytes b ≡ b = take-all outbytes b (omega arith) in
     let front = flatMap stateOf (take (l .i) ls) in
     let more = ap (λ (x : List ℕ). front ++ x) (all ∙ w .write-words .ensures) ∙ flat-more stateOf ls (l .i) _ (rw (all-leaves s) (omega arith)) in
-    let grown = ap length (sym more) ∙ length-append front (take digest b) ∙ ap (λ (x : List ℕ). length front + length x) all in
-    let stored = filled-turn digests front (take digest b) (l .inv .3) (sym (l .inv .2)) (c .before .store .ensures) in
-    (omega arith, search needs, grown ∙ omega (arith, l .inv .2), stored ∙ ap (pad digests) more)
+    let grown = ap length (sym more) ∙ length-append front (take outbytes b) ∙ ap (λ (x : List ℕ). length front + length x) all in
+    let stored = filled-turn leavesbytes front (take outbytes b) (l .inv .3) (sym (l .inv .2)) (c .before .store .ensures) in
+    (omega arith, search needs, grown ∙ omega (arith, l .inv .2), stored ∙ ap (pad leavesbytes) more)
 
 returns : tie.Need-returns Inv-loop μ-loop
 returns c =
@@ -66,7 +66,7 @@ returns c =
     let ls = c .before .before .before .args .t1 in
     let e : l .i ≡ degree = omega arith in
     let all : take (l .i) ls ≡ ls = take-all (l .i) ls (rw (all-leaves (c .before .before .before)) (omega arith)) in
-    l .inv .3 ∙ pad-whole digests (flatMap stateOf (take (l .i) ls)) (l .inv .2 ∙ omega arith) ∙ ap (flatMap stateOf) all
+    l .inv .3 ∙ pad-whole leavesbytes (flatMap stateOf (take (l .i) ls)) (l .inv .2 ∙ omega arith) ∙ ap (flatMap stateOf) all
 
 pub leaf-bytes-spec : {M : Type 1} → statement M
 leaf-bytes-spec =

@@ -9,12 +9,12 @@ use Rattle.laws_states.specs.Deal.{each, leafThrough}
 use Rattle.laws_states.proofs.Deals.{leaf-turn}
 use Rattle.guts.specs.Guts.{finalizes}
 use Rattle.blake2bp_leaves.specs.Leaves.{onLeaf}
-use Rattle.blake2bp_leaves.proofs.Sizes.{degree, block}
+use Rattle.blake2bp_leaves.specs.Sizes.{degree, blockbytes}
 use Rattle.blake2bp_leaves.proofs.leaves.run_leaves.Statement.{statement}
 use Rattle.blake2bp_leaves.proofs.leaves.run_leaves.Tie as tie
 
 abbrev Inv-loop : tie.InvT-loop
-Inv-loop input count finalize leaves out₀ i₀ out i = (i ≤ degree) × (out ≡ each (leafThrough block onLeaf degree (count .0) (finalizes finalize) input) 0 i out₀)
+Inv-loop input count finalize leaves out₀ i₀ out i = (i ≤ degree) × (out ≡ each (leafThrough blockbytes onLeaf degree (count .0) (finalizes finalize) input) 0 i out₀)
 
 abbrev μ-loop : tie.MeasureT-loop
 μ-loop input count finalize leaves out₀ i₀ out i = degree - i
@@ -35,7 +35,7 @@ loop-again c =
     let l = head .loop in
     let a = head .before .before .args in (
       omega arith,
-      leaf-turn block onLeaf (omega arith) degree (omega arith) (a .t1) (a .count .0) (finalizes (a .finalize)) (a .input .now) (l .i) _
+      leaf-turn blockbytes onLeaf (omega arith) degree (omega arith) (a .t1) (a .count .0) (finalizes (a .finalize)) (a .input .now) (l .i) _
           (search needs) (omega arith) (node .last-node-of .ensures) (rest .offset-slice .ensures) (l .inv .1) (c .run-leaf .ensures),
     )
 

@@ -7,7 +7,7 @@ use borrow.Author.Needs.{needs}
 use lib.ListN.{replicate}
 use Rattle.laws_states.specs.Deal.{each}
 use Rattle.blake2bp_leaves.specs.declared.leaves.Leaf.{Leaf}
-use Rattle.blake2bp_leaves.proofs.Sizes.{degree}
+use Rattle.blake2bp_leaves.specs.Sizes.{degree}
 use Rattle.blake2bp_leaves.proofs.Turns.{leaf-start, start-turn, starts-made}
 use Rattle.blake2bp_leaves.proofs.starts.leaf_words.Statement.{statement}
 use Rattle.blake2bp_leaves.proofs.starts.leaf_words.Tie as tie

@@ -4,12 +4,13 @@ use mathlib.Core.Path.{_≡_, sym, ap, _∙_}
 use mathlib.Core.Bool.{Bool, true}
 use borrow.Author.Needs.{needs}
 use lib.ListN.{length}
+use Rattle.hash.specs.Sizes.{longest}
 use Rattle.hash.specs.Hash.{hashInRange, digestOf, compared}
 use Rattle.hash.proofs.Digests.{digest-within, length-digest, compared-with-bad}
 use Rattle.hash.proofs.Hash.equals.Statement.{statement}
 use Rattle.hash.proofs.Hash.equals.Tie as tie
 
-sized : (c : tie.Start) → length (c .args .other .bytes) ≡ 64
+sized : (c : tie.Start) → length (c .args .other .bytes) ≡ longest
 sized c = search needs
 
 good : (c : tie.Then1) → hashInRange (c .before .before .args .other) ≡ true

@@ -5,12 +5,13 @@ use mathlib.Core.Bool.{true}
 use borrow.Author.Needs.{needs}
 use denote.Ref.{now}
 use lib.ListN.{length}
+use Rattle.hash.specs.Sizes.{longest}
 use Rattle.hash.specs.Hash.{hashInRange}
 use Rattle.hash.proofs.Digests.{digest-within, length-digest, compared-known, compared-refused}
 use Rattle.hash.proofs.Hash.equals_bytes.Statement.{statement}
 use Rattle.hash.proofs.Hash.equals_bytes.Tie as tie
 
-sized : (c : tie.Start) → length (c .args .self .bytes) ≡ 64
+sized : (c : tie.Start) → length (c .args .self .bytes) ≡ longest
 sized c = search needs
 
 good : (c : tie.Then1) → hashInRange (c .before .before .before .args .self) ≡ true

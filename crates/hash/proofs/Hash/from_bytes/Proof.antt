@@ -3,11 +3,12 @@
 use mathlib.Core.Path.{_≡_}
 use borrow.Author.Needs.{needs}
 use lib.ListN.{length}
+use Rattle.hash.specs.Sizes.{longest}
 use Rattle.hash.proofs.Digests.{whole-hash}
 use Rattle.hash.proofs.Hash.from_bytes.Statement.{statement}
 use Rattle.hash.proofs.Hash.from_bytes.Tie as tie
 
-sized : (c : tie.Start) → length (c .args .bytes) ≡ 64
+sized : (c : tie.Start) → length (c .args .bytes) ≡ longest
 sized c = search needs
 
 returns : tie.Need-returns

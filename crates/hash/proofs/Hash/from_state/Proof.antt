@@ -10,6 +10,7 @@ use denote.Ref.{now}
 use lib.ListN.{length, take}
 use lib.Seq.{length-take-le}
 use Rattle.laws_words.proofs.Stores.{stored-padded}
+use Rattle.hash.specs.Sizes.{longest}
 use Rattle.hash.specs.Hash.{isDigestLength}
 use Rattle.hash.proofs.Digests.{digest-length-bounds, made, not-made, not-there}
 use Rattle.hash.proofs.Hash.from_state.Statement.{statement}
@@ -57,7 +58,7 @@ returns-3 c =
     let z = st .before .before .before in
     let t = z .before in
     let a = t .before .before .before .before .args in
-    rw (stored-padded 64 (take (a .length) (now (a .state))) (z .zero-bytes .ensures) (st .store .ensures))
+    rw (stored-padded longest (take (a .length) (now (a .state))) (z .zero-bytes .ensures) (st .store .ensures))
     (made (now (a .state)) (a .length) (asked (t .before)) (t .if2 .left))
 
 pub from-state-spec : {M : Type 1} → statement M

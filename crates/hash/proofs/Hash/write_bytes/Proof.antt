@@ -6,13 +6,14 @@ use borrow.Author.Needs.{needs}
 use borrow.Author.Tests.{not-true, not-false}
 use denote.Ref.{now}
 use lib.ListN.{length}
+use Rattle.hash.specs.Sizes.{longest}
 use Rattle.hash.specs.Hash.{hashInRange, digestOf}
 use Rattle.hash.proofs.Digests.{digest-within, length-digest}
 use Rattle.hash.proofs.Outputs.{written-bad, written-good}
 use Rattle.hash.proofs.Hash.write_bytes.Statement.{statement}
 use Rattle.hash.proofs.Hash.write_bytes.Tie as tie
 
-sized : (c : tie.Start) → length (c .args .self .bytes) ≡ 64
+sized : (c : tie.Start) → length (c .args .self .bytes) ≡ longest
 sized c = search needs
 
 good : (c : tie.Else1) → hashInRange (c .before .before .before .args .self) ≡ true

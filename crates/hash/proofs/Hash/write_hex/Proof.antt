@@ -9,6 +9,7 @@ use borrow.Author.Needs.{needs}
 use borrow.Author.Tests.{not-true, not-false}
 use denote.Ref.{now}
 use lib.ListN.{length, take, length-take}
+use Rattle.hash.specs.Sizes.{longest}
 use Rattle.hash.specs.Hash.{hashInRange, digestOf, hexOf}
 use Rattle.hash.specs.Output.{wrote, wroteOver}
 use Rattle.hash.proofs.Digests.{digest-within, length-digest, hex-length, hex-within, hex-front}
@@ -16,7 +17,7 @@ use Rattle.hash.proofs.Outputs.{written-bad, written-good}
 use Rattle.hash.proofs.Hash.write_hex.Statement.{statement}
 use Rattle.hash.proofs.Hash.write_hex.Tie as tie
 
-sized : (c : tie.Start) → length (c .args .self .bytes) ≡ 64
+sized : (c : tie.Start) → length (c .args .self .bytes) ≡ longest
 sized c = search needs
 
 good : (c : tie.Else1) → hashInRange (c .before .before .before .args .self) ≡ true

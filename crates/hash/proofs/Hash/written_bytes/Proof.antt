@@ -8,6 +8,7 @@ use borrow.Author.Needs.{needs}
 use borrow.Author.Tests.{not-true, not-false}
 use denote.Ref.{now}
 use lib.ListN.{length}
+use Rattle.hash.specs.Sizes.{longest}
 use Rattle.hash.specs.Hash.{hashInRange, digestOf}
 use Rattle.hash.specs.Output.{wrotePart}
 use Rattle.hash.proofs.Digests.{length-digest}
@@ -15,7 +16,7 @@ use Rattle.hash.proofs.Outputs.{part-bad, part-good}
 use Rattle.hash.proofs.Hash.written_bytes.Statement.{statement}
 use Rattle.hash.proofs.Hash.written_bytes.Tie as tie
 
-sized : (c : tie.Start) → length (c .args .self .bytes) ≡ 64
+sized : (c : tie.Start) → length (c .args .self .bytes) ≡ longest
 sized c = search needs
 
 good : (c : tie.Else1) → hashInRange (c .before .before .before .args .self) ≡ true

@@ -9,6 +9,7 @@ use native.Mathlib.Omega.{arith}
 use borrow.Author.Needs.{needs}
 use denote.Ref.{now}
 use lib.ListN.{length, take}
+use Rattle.hash.specs.Sizes.{longest, longestHex}
 use Rattle.hash.specs.Hash.{hashInRange, digestOf, hexOf}
 use Rattle.report_text.specs.Ascii.{ascii}
 use Rattle.report_text.specs.Lines.{line, Appends}
@@ -17,7 +18,7 @@ use Rattle.report_text.proofs.Reports.{digest-fits, hex-written}
 use Rattle.report_text.proofs.report.put_digest.Statement.{statement}
 use Rattle.report_text.proofs.report.put_digest.Tie as tie
 
-sized : (c : tie.Start) → length (c .args .hash .bytes) ≡ 64
+sized : (c : tie.Start) → length (c .args .hash .bytes) ≡ longest
 sized c = search needs
 
 asked : (c : tie.Start) → (hashInRange (c .args .hash) ≡ true) × (c .args .at + 136 ≤ length (now (c .args .out)))
@@ -46,7 +47,7 @@ put-line-requires : tie.Need-put-line-requires
 put-line-requires c κs =
     let w = c .before .before .before .before in
     let s = w .before .before .before in
-    let few : length (take (w .write-hex .result .length) (w .write-hex .last .1 .0)) ≤ 128 = rw (made w .1) (digest-fits (s .args .hash) (sized s) (asked s .0)) in
+    let few : length (take (w .write-hex .result .length) (w .write-hex .last .1 .0)) ≤ longestHex = rw (made w .1) (digest-fits (s .args .hash) (sized s) (asked s .0)) in
     let room = asked s .1 in
     omega (arith, few, room)
 

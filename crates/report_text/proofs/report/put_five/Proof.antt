@@ -5,12 +5,13 @@ use mathlib.Core.Bool.{true}
 use borrow.Author.Needs.{needs}
 use denote.Ref.{now}
 use lib.ListN.{length}
+use Rattle.hash.specs.Sizes.{longest}
 use Rattle.hash.specs.Hash.{hashInRange, digestOf}
 use Rattle.report_text.proofs.Reports.{length-told, five-appended}
 use Rattle.report_text.proofs.report.put_five.Statement.{statement}
 use Rattle.report_text.proofs.report.put_five.Tie as tie
 
-sized : (c : tie.Start) → length (c .args .hash .bytes) ≡ 64
+sized : (c : tie.Start) → length (c .args .hash .bytes) ≡ longest
 sized c = search needs
 
 good : (c : tie.Start) → hashInRange (c .args .hash) ≡ true
@@ -31,10 +32,5 @@ pub put-five-spec : {M : Type 1} → statement M
 put-five-spec =
     tie.close
     (tie.spec
-    (search needs)
-    (search needs)
-    (search needs)
-    (search needs)
-    (λ c κs. search needs)
-    (search needs)
+    (search needs) (search needs) (search needs) (search needs) (λ c κs. search needs) (search needs)
     returns)

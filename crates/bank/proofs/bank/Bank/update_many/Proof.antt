@@ -32,6 +32,10 @@ many c = omega (arith, c .good .1 .0 .1 .0 .1)
 abbrev begun : tie.At-loop Inv-loop μ-loop → tie.Start Inv-loop μ-loop
 begun l = l .before .before .before .before .before .before
 
+-- so many records are there
+fits : (l : tie.At-loop Inv-loop μ-loop) → begun l .args .used ≤ length (begun l .args .t2)
+fits l = rw (many (begun l)) (l .loop .inv .1)
+
 returns : tie.Need-returns Inv-loop μ-loop
 returns c = c .refused .ensures ∙ batch-bad _ _ _ _ (c .before .before .in-range .ensures) (c .before .if1 .taken)
 
@@ -50,8 +54,8 @@ returns-3 : tie.Need-returns-3 Inv-loop μ-loop
 returns-3 c =
     let t = c .before .before .before in
     let l = t .before in
-    let fits : begun l .args .used ≤ length (begun l .args .t2) = rw (many (begun l)) (l .loop .inv .1) in
-    c .refused3 .ensures ∙ batch-slot-number _ _ (begun l .args .t2) (l .loop .i) (begun l .args .used) _ _ (t .loop-test .taken) fits (c .before .if3 .taken) ∙ l .loop .inv .3
+    let a = begun l .args in
+    c .refused3 .ensures ∙ batch-slot-number _ _ (a .t2) (l .loop .i) (a .used) _ _ (t .loop-test .taken) (fits l) (c .before .if3 .taken) ∙ l .loop .inv .3
 
 returns-4 : tie.Need-returns-4 Inv-loop μ-loop
 returns-4 c =
@@ -59,9 +63,11 @@ returns-4 c =
     let k = f .before .before in
     let t = k .before .before in
     let l = t .before in
-    let fits : begun l .args .used ≤ length (begun l .args .t2) = rw (many (begun l)) (l .loop .inv .1) in
-    c .refused4 .ensures ∙ batch-stops _ _ (begun l .args .t2) (l .loop .i) (begun l .args .used) _ _ (t .loop-test .taken) fits (k .if3 .left) (l .loop .inv .2) _ (f .feed .ensures) (c .before .if4 .taken)
-    ∙ l .loop .inv .3
+    let a = begun l .args in
+    let i = l .loop in
+    c .refused4 .ensures
+    ∙ batch-stops _ _ (a .t2) (i .i) (a .used) _ _ (t .loop-test .taken) (fits l) (k .if3 .left) (i .inv .2) _ (f .feed .ensures) (c .before .if4 .taken)
+    ∙ i .inv .3
 
 loop-again : tie.Need-loop-again Inv-loop μ-loop
 loop-again c =
@@ -69,10 +75,14 @@ loop-again c =
     let k = f .before .before in
     let t = k .before .before in
     let l = t .before in
-    let fits : begun l .args .used ≤ length (begun l .args .t2) = rw (many (begun l)) (l .loop .inv .1) in
-    let on = batch-goes-on (begun l .args .self .slots) (l .loop .slots) (begun l .args .t2) (l .loop .i) (begun l .args .used) (begun l .args .«data» .now) _ (t .loop-test .taken) fits (k .if3 .left) (l .loop .inv .2) _ (f .feed .ensures) (c .before .if4 .left) in
-    let kept = slots-kept (begun l .args .self .slots) (l .loop .slots) (begun l .args .t2) (l .loop .i) (begun l .args .used) (begun l .args .«data» .now) _ (t .loop-test .taken) fits (k .if3 .left) (l .loop .inv .2) _ (f .feed .ensures) in
-    (omega (arith, t .loop-test .taken), l .loop .inv .1, kept, sym (ap batchAnswer on) ∙ l .loop .inv .3)
+    let a = begun l .args in
+    let i = l .loop in
+    let more = t .loop-test .taken in
+    let on =
+    batch-goes-on (a .self .slots) (i .slots) (a .t2) (i .i) (a .used) (a .«data» .now) _ more (fits l) (k .if3 .left) (i .inv .2) _ (f .feed .ensures)
+    (c .before .if4 .left) in
+    let kept = slots-kept (a .self .slots) (i .slots) (a .t2) (i .i) (a .used) (a .«data» .now) _ more (fits l) (k .if3 .left) (i .inv .2) _ (f .feed .ensures) in
+    (omega (arith, more), i .inv .1, kept, sym (ap batchAnswer on) ∙ i .inv .3)
 
 returns-5 : tie.Need-returns-5 Inv-loop μ-loop
 returns-5 c =
@@ -80,4 +90,20 @@ returns-5 c =
     batch-ends _ _ (begun l .args .t2) (l .loop .i) (begun l .args .used) _ (l .loop .inv .0) (c .loop-test .left) ∙ l .loop .inv .3
 
 pub update-many-spec : {M : Type 1} → statement M
-update-many-spec = tie.close (tie.spec Inv-loop μ-loop (search needs) (search needs) returns (search needs) returns-2 loop-holds (search needs) (search needs) (search needs) returns-3 (search needs) (search needs) (search needs) (search needs) returns-4 (search needs) (search needs) (search needs) (search needs) loop-again returns-5)
+update-many-spec =
+    tie.close
+    (tie.spec
+    Inv-loop
+    μ-loop
+    (search needs) (search needs)
+    returns
+    (search needs)
+    returns-2
+    loop-holds
+    (search needs) (search needs) (search needs)
+    returns-3
+    (search needs) (search needs) (search needs) (search needs)
+    returns-4
+    (search needs) (search needs) (search needs) (search needs)
+    loop-again
+    returns-5)

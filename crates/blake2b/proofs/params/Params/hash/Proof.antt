@@ -8,6 +8,7 @@ use lib.ListN.{length}
 use Prim.Native.Nat.{ℕ, _≤_}
 use Rattle.refusals.specs.Numbers.{limit}
 use Rattle.blake2b.specs.Params.{inRange}
+use Rattle.blake2b_state.specs.Sizes.{blockbytes}
 use Rattle.blake2b_state.specs.State.{updated}
 use Rattle.blake2b.specs.Member.{fresh, hashed}
 use Rattle.blake2b_state.specs.declared.state.State.{State}
@@ -18,7 +19,7 @@ use borrow.Author.Needs.{needs}
 use Rattle.blake2b.proofs.params.Params.hash.Statement.{statement}
 use Rattle.blake2b.proofs.params.Params.hash.Tie as tie
 
-whole : (c : tie.Start) → length (c .args .self .«key_block») ≡ 128
+whole : (c : tie.Start) → length (c .args .self .«key_block») ≡ blockbytes
 whole c = search needs
 
 few : (c : tie.Start) → length (c .args .input .now) ≤ limit

@@ -19,7 +19,10 @@ returns-2 c =
     let r = z .before .before in
     let i = r .before .before in
     let s = i .before .before in
-    rows-some keeper laws (s .args .self) (s .args .input .now) (s .args .blocks) (s .pre .0) (s .pre .1) (length (s .args .input .now)) (s .pre .1) (i .if1 .left) (r .absorbed .ensures) (z .zero-block .ensures)
+    let a = s .args in
+    let whole = s .pre .1 in
+    rows-some keeper laws (a .self) (a .input .now) (a .blocks) (s .pre .0) whole (length (a .input .now)) whole (i .if1 .left)
+    (r .absorbed .ensures) (z .zero-block .ensures)
 
 pub compress-blocks-spec : {M : Type 1} → statement M
 compress-blocks-spec = tie.close (tie.spec returns (search needs) (search needs) (search needs) returns-2)

@@ -4,13 +4,14 @@ use mathlib.Core.Path.{_≡_, refl}
 use native.Mathlib.Omega.{arith}
 use lib.ListN.{length}
 use Rattle.members.proofs.Moves.{one-gone}
+use Rattle.blake2b_state.specs.Sizes.{blockbytes}
 use Rattle.blake2b_state.specs.State.{keeper}
 use Rattle.blake2b_state.proofs.States.{laws}
 use borrow.Author.Needs.{needs}
 use Rattle.blake2b_state.proofs.state.State.compress_buffer.Statement.{statement}
 use Rattle.blake2b_state.proofs.state.State.compress_buffer.Tie as tie
 
-sized : (c : tie.Start) → length (c .args .self .buf) ≡ 128
+sized : (c : tie.Start) → length (c .args .self .buf) ≡ blockbytes
 sized c = search needs
 
 absorbed-requires : tie.Need-absorbed-requires

@@ -8,6 +8,7 @@ use Rattle.refusals.specs.Numbers.{accepted, limit}
 use Rattle.members.specs.Keeper.{keyRow}
 use Rattle.members.proofs.Ranges.{Kept, kept}
 use Rattle.refusals.proofs.Picks.{passed, refused}
+use Rattle.blake2b_state.specs.Sizes.{blockbytes}
 use Rattle.blake2b_state.specs.State.{total, bounds, reads, counted, keeper}
 use borrow.Author.Needs.{needs}
 use Rattle.blake2b_state.proofs.state.State.count.Statement.{statement}
@@ -29,7 +30,7 @@ add-all c = let r = ranged (c .before) in omega (arith, r .within)
 sub-t6 : tie.Need-sub-t6
 sub-t6 c =
     let i = c .before .before in
-    let f : 128 ≤ total (i .before .before .args .self) = rw (c .if2 .taken) at (ranged i .front) in
+    let f : blockbytes ≤ total (i .before .before .args .self) = rw (c .if2 .taken) at (ranged i .front) in
     omega arith
 
 returns-2 : tie.Need-returns-2
@@ -37,7 +38,7 @@ unfolding counted
 returns-2 c =
     let i = c .before .before in
     let s = i .before .before .args .self in
-    let t : s .count + s .buflen - 128 ≡ total s - 128 = omega arith in
+    let t : s .count + s .buflen - blockbytes ≡ total s - blockbytes = omega arith in
     passed _ _ _ (i .before .in-range .ensures) (i .if1 .left) (ap (reads .count accepted) (t ∙ ap (λ (k : Bool). total s - keyRow bounds k) (sym (c .if2 .taken))))
 
 returns-3 : tie.Need-returns-3

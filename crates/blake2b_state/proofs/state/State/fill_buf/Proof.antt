@@ -4,13 +4,14 @@ use mathlib.Core.Path.{_≡_}
 use native.Mathlib.Omega.{arith}
 use lib.ListN.{length}
 use Rattle.members.proofs.Moves.{filled}
+use Rattle.blake2b_state.specs.Sizes.{blockbytes}
 use Rattle.blake2b_state.specs.State.{keeper}
 use Rattle.blake2b_state.proofs.States.{laws}
 use borrow.Author.Needs.{needs}
 use Rattle.blake2b_state.proofs.state.State.fill_buf.Statement.{statement}
 use Rattle.blake2b_state.proofs.state.State.fill_buf.Tie as tie
 
-sized : (c : tie.Start) → length (c .args .self .buf) ≡ 128
+sized : (c : tie.Start) → length (c .args .self .buf) ≡ blockbytes
 sized c = search needs
 
 store-requires : tie.Need-store-requires

@@ -15,6 +15,7 @@ use Rattle.definitions.specs.Family.{BLAKE2b}
 use Rattle.definitions.specs.Hash.{stateBytes}
 use Rattle.laws_blocks.specs.Blocks.{throughBlocks}
 use Rattle.guts.specs.Guts.{isLastNode}
+use Rattle.blake2b_state.specs.Sizes.{blockbytes, outbytes}
 use Rattle.blake2b_state.specs.State.{reads, finalized, keeper}
 use Rattle.blake2b_state.specs.State as state
 use Rattle.blake2b_state.proofs.States.{last-node-is}
@@ -22,13 +23,13 @@ use borrow.Author.Needs.{needs}
 use Rattle.blake2b_state.proofs.state.State.finalize.Statement.{statement}
 use Rattle.blake2b_state.proofs.state.State.finalize.Tie as tie
 
-sized : (c : tie.Start) → length (c .args .self .buf) ≡ 128
+sized : (c : tie.Start) → length (c .args .self .buf) ≡ blockbytes
 sized c = search needs
 
 ranged : (c : tie.Else1) → Kept keeper (c .before .before .args .self)
 ranged c = kept keeper (c .before .before .args .self) (c .before .range-of .ensures) (c .if1 .left)
 
-state-long : (c : tie.After-write-words) → length (c .write-words .result) ≡ 64
+state-long : (c : tie.After-write-words) → length (c .write-words .result) ≡ outbytes
 state-long c = search needs
 
 returns : tie.Need-returns
@@ -68,11 +69,12 @@ returns-2 c =
     let i = n .before .before .before .before in
     let r = ranged i in
     let s = i .before .before .args .self in
+    let flag = ap isLastNode (n .last-node-of .ensures) ∙ last-node-is (s .«last_node») in
     passed _ _ _ (i .before .range-of .ensures) (i .if1 .left)
     (made-hash (s .«hash_length») _ (digest-length-is (s .«hash_length») (r .least) (r .most)) (state-long w) (c .from-state .ensures)
     ∙ ap (λ (d : List ℕ). reads .made (take (s .«hash_length») d)) (w .write-words .ensures)
     ∙ ap (λ (w : List ℕ). reads .made (take (s .«hash_length») (stateBytes BLAKE2b w)))
-    (run .compress1-loop .ensures ∙ (λ j. throughBlocks BLAKE2b 128 (s .words) (s .count) true ((ap isLastNode (n .last-node-of .ensures) ∙ last-node-is (s .«last_node»)) j) (state.pending s))))
+    (run .compress1-loop .ensures ∙ (λ j. throughBlocks BLAKE2b blockbytes (s .words) (s .count) true (flag j) (state.pending s))))
 
 pub finalize-spec : {M : Type 1} → statement M
 finalize-spec =

@@ -1,6 +1,7 @@
 -- `blake2b_state::state::State::update` meets its contract.
 -- Assumes nothing.
 use mathlib.Core.Path.{_≡_, refl, sym, ap}
+use mathlib.Core.List.{_++_}
 use Prim.Native.Nat.{ℕ, _+_, _≤_}
 use native.Mathlib.Omega.{arith}
 use borrow.Author.Tests.{le-leb, lt-leb}
@@ -10,7 +11,8 @@ use Rattle.laws_blocks.specs.Chain.{spare}
 use Rattle.laws_blocks.proofs.Rows.{spare-none}
 use Rattle.members.proofs.Ranges.{Kept, kept}
 use Rattle.refusals.proofs.Picks.{passed, refused, holds, fails}
-use Rattle.blake2b_state.specs.State.{total, pushed, reads, updated, keeper}
+use Rattle.blake2b_state.specs.Sizes.{blockbytes}
+use Rattle.blake2b_state.specs.State.{pending, moved, total, pushed, reads, updated, keeper}
 use Rattle.blake2b_state.specs.declared.state.State.{State}
 use Rattle.members.proofs.Moves.{taken-tight}
 use Rattle.blake2b_state.proofs.States.{tight, laws}
@@ -18,7 +20,7 @@ use borrow.Author.Needs.{needs}
 use Rattle.blake2b_state.proofs.state.State.update.Statement.{statement}
 use Rattle.blake2b_state.proofs.state.State.update.Tie as tie
 
-sized : (c : tie.Start) → length (c .args .self .buf) ≡ 128
+sized : (c : tie.Start) → length (c .args .self .buf) ≡ blockbytes
 sized c = search needs
 
 none-held : (b n : ℕ) → b ≡ 0 → n ≡ b + n
@@ -45,7 +47,8 @@ returns-2 c =
     let i = c .before .before in
     let a = begun i .args in
     let r = ranged i in
-    passed _ _ _ (i .before .range-of .ensures) (i .if1 .left) (fails _ _ _ (lt-leb (total (a .self) + length (a .input .now)) limit (omega (arith, r .within, c .if2 .taken))) refl)
+    passed _ _ _ (i .before .range-of .ensures) (i .if1 .left)
+    (fails _ _ _ (lt-leb (total (a .self) + length (a .input .now)) limit (omega (arith, r .within, c .if2 .taken))) refl)
 
 sub-if3 : tie.Need-sub-if3
 sub-if3 c = let r = ranged (c .before .before) in omega (arith, r .held)
@@ -63,6 +66,15 @@ all-taken c e =
     let i = c .before .before in
     passed _ _ _ (i .before .range-of .ensures) (i .if1 .left) (holds _ _ _ (le-leb _ limit (within c)) (ap (reads .state accepted) e))
 
+-- k blocks of them go
+taken : (e : tie.Else2) (k : ℕ) {r : State} → let a = begun (e .before .before) .args in
+    k ≡ spare blockbytes 0 (a .self .buflen + length (a .input .now))
+    → r ≡ moved (a .self) (pending (a .self) ++ a .input .now) k → record { number = accepted; state = r } ≡ updated (a .self) (a .input .now)
+taken e k h f =
+    let i = e .before .before in
+    let a = begun i .args in
+    all-taken e (taken-tight keeper laws (a .self) (a .input .now) (record { sized = sized (begun i); held = ranged i .held }) tight k h f)
+
 fill-buf-requires : tie.Need-fill-buf-requires
 fill-buf-requires c κs = let r = ranged (c .before .before .before) in omega (arith, r .held, c .if3 .taken)
 
@@ -72,7 +84,8 @@ returns-3 c =
     let i = e .before .before in
     let a = begun i .args in
     let r = ranged i in
-    all-taken e (taken-tight keeper laws (a .self) (a .input .now) (record { sized = sized (begun i); held = r .held }) tight 0 (sym (spare-none 128 0 (omega arith) (a .self .buflen + length (a .input .now)) (omega (arith, r .held, c .before .if3 .taken)))) (c .fill-buf .ensures))
+    let few = spare-none blockbytes 0 (omega arith) (a .self .buflen + length (a .input .now)) (omega (arith, r .held, c .before .if3 .taken)) in
+    taken e 0 (sym few) (c .fill-buf .ensures)
 
 take-long-requires : tie.Need-take-long-requires
 take-long-requires c κs =
@@ -82,10 +95,9 @@ take-long-requires c κs =
 returns-4 : tie.Need-returns-4
 returns-4 c =
     let e = c .before .before .before in
-    let i = e .before .before in
-    let a = begun i .args in
+    let a = begun (e .before .before) .args in
     let n = length (a .input .now) in
-    all-taken e (taken-tight keeper laws (a .self) (a .input .now) (record { sized = sized (begun i); held = ranged i .held }) tight (spare 128 0 n) (ap (spare 128 0) (none-held (a .self .buflen) n (c .before .if4 .taken))) (c .take-long .ensures))
+    taken e (spare blockbytes 0 n) (ap (spare blockbytes 0) (none-held (a .self .buflen) n (c .before .if4 .taken))) (c .take-long .ensures)
 
 spill-requires : tie.Need-spill-requires
 spill-requires c κs =
@@ -94,11 +106,7 @@ spill-requires c κs =
     (r .held, omega (arith, r .held, c .before .if3 .left), omega (arith, within e))
 
 returns-5 : tie.Need-returns-5
-returns-5 c =
-    let e = c .before .before .before in
-    let i = e .before .before in
-    let a = begun i .args in
-    all-taken e (taken-tight keeper laws (a .self) (a .input .now) (record { sized = sized (begun i); held = ranged i .held }) tight (spare 128 0 (a .self .buflen + length (a .input .now))) refl (c .spill .ensures))
+returns-5 c = taken (c .before .before .before) _ refl (c .spill .ensures)
 
 pub update-spec : {M : Type 1} → statement M
 update-spec = tie.close (tie.spec (search needs) returns (search needs) sub-left-2 returns-2 sub-if3 fill-buf-requires returns-3 take-long-requires returns-4 spill-requires returns-5)

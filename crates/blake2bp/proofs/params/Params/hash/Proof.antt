@@ -6,6 +6,7 @@ use Prim.Native.Nat.{_≤_}
 use borrow.Author.Tests.{not-false}
 use lib.ListN.{length}
 use Rattle.refusals.specs.Numbers.{limit}
+use Rattle.blake2bp.specs.Sizes.{keybytes}
 use Rattle.blake2bp.specs.Params.{inRange}
 use Rattle.blake2bp.specs.State.{fresh, updated, hashed}
 use Rattle.blake2bp.specs.declared.state.State.{State}
@@ -17,7 +18,7 @@ use borrow.Author.Needs.{needs}
 use Rattle.blake2bp.proofs.params.Params.hash.Statement.{statement}
 use Rattle.blake2bp.proofs.params.Params.hash.Tie as tie
 
-whole : (c : tie.Start) → length (c .args .self .key) ≡ 64
+whole : (c : tie.Start) → length (c .args .self .key) ≡ keybytes
 whole c = search needs
 
 few : (c : tie.Start) → length (c .args .input .now) ≤ limit

@@ -6,6 +6,7 @@ use denote.Ref.{now}
 use lib.ListN.{length}
 use Rattle.refusals.specs.Numbers.{accepted}
 use Rattle.refusals.proofs.Picks.{passed, refused, holds, fails}
+use Rattle.blake2bp.specs.Sizes.{keybytes}
 use Rattle.blake2bp.specs.Params.{answered}
 use borrow.Author.Needs.{needs}
 use Rattle.blake2bp.proofs.params.Params.key.Statement.{statement}
@@ -19,7 +20,7 @@ returns-2 : tie.Need-returns-2
 unfolding answered
 returns-2 c =
     let i = c .before .before in
-    passed _ _ _ (i .before .in-range .ensures) (i .if1 .left) (fails _ _ _ (lt-leb (length (now (i .before .before .before .args .key))) 64 (c .before .if2 .taken)) (c .answer2 .ensures))
+    passed _ _ _ (i .before .in-range .ensures) (i .if1 .left) (fails _ _ _ (lt-leb (length (now (i .before .before .before .args .key))) keybytes (c .before .if2 .taken)) (c .answer2 .ensures))
 
 returns-3 : tie.Need-returns-3
 unfolding answered
@@ -27,7 +28,7 @@ returns-3 c =
     let i = c .before .before .before in
     let a = i .before .before .before .args in
     let p = a .self in
-    passed _ _ _ (i .before .in-range .ensures) (i .if1 .left) (holds _ _ _ (le-leb (length (now (a .key))) 64 (c .before .before .if2 .left))
+    passed _ _ _ (i .before .in-range .ensures) (i .if1 .left) (holds _ _ _ (le-leb (length (now (a .key))) keybytes (c .before .before .if2 .left))
     (c .answer3 .ensures ∙ (λ j. record { number = accepted; params = record { «hash_length» = p .«hash_length»; «key_length» = length (now (a .key)); key = c .before .padded-key .ensures j } })))
 
 pub key-spec : {M : Type 1} → statement M

@@ -4,12 +4,13 @@ use mathlib.Core.Path.{_≡_}
 use native.Mathlib.Nat.{sub-zero}
 use native.Mathlib.Omega.{arith}
 use lib.ListN.{length}
+use Rattle.blake2bp.specs.Sizes.{keybytes}
 use Rattle.blake2bp.proofs.Pieces.{fresh-keyed, fresh-plain}
 use borrow.Author.Needs.{needs}
 use Rattle.blake2bp.proofs.params.Params.with_params.Statement.{statement}
 use Rattle.blake2bp.proofs.params.Params.with_params.Tie as tie
 
-whole : (c : tie.Start) → length (c .args .self .key) ≡ 64
+whole : (c : tie.Start) → length (c .args .self .key) ≡ keybytes
 whole c = search needs
 
 part-padded-block-end : tie.Need-part-padded-block-end

@@ -8,6 +8,7 @@ use Rattle.refusals.specs.Numbers.{accepted, limit}
 use Rattle.members.specs.Keeper.{keyRow}
 use Rattle.members.proofs.Ranges.{Kept, kept}
 use Rattle.refusals.proofs.Picks.{passed, refused}
+use Rattle.blake2bp.specs.Sizes.{keyrowbytes}
 use Rattle.blake2bp.specs.State.{total, bounds, reads, counted, keeper}
 use borrow.Author.Needs.{needs}
 use Rattle.blake2bp.proofs.state.State.count.Statement.{statement}
@@ -33,7 +34,7 @@ add-all c = let r = ranged (c .before) in omega (arith, r .within)
 sub-t10 : tie.Need-sub-t10
 sub-t10 c =
     let i = c .before .before in
-    let f : 512 ≤ total (i .before .before .args .self) = rw (c .if2 .taken) at (ranged i .front) in
+    let f : keyrowbytes ≤ total (i .before .before .args .self) = rw (c .if2 .taken) at (ranged i .front) in
     omega (arith, f)
 
 returns-2 : tie.Need-returns-2

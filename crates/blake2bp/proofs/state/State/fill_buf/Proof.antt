@@ -4,13 +4,14 @@ use mathlib.Core.Path.{_≡_}
 use native.Mathlib.Omega.{arith}
 use lib.ListN.{length}
 use Rattle.members.proofs.Moves.{filled}
+use Rattle.blake2bp.specs.Sizes.{roombytes}
 use Rattle.blake2bp.specs.State.{keeper}
 use Rattle.blake2bp.proofs.States.{keeper-laws}
 use borrow.Author.Needs.{needs}
 use Rattle.blake2bp.proofs.state.State.fill_buf.Statement.{statement}
 use Rattle.blake2bp.proofs.state.State.fill_buf.Tie as tie
 
-sized : (c : tie.Start) → length (c .args .self .buf) ≡ 1024
+sized : (c : tie.Start) → length (c .args .self .buf) ≡ roombytes
 sized c = search needs
 
 store-requires : tie.Need-store-requires

@@ -15,12 +15,13 @@ use Rattle.definitions.specs.Family.{BLAKE2b}
 use Rattle.laws_states.specs.Leaves.{rooted}
 use Rattle.blake2bp_leaves.specs.Leaves.{wordsOf}
 use Rattle.blake2bp_leaves.specs.declared.leaves.Leaf.{Leaf}
+use Rattle.blake2bp.specs.Sizes.{roombytes}
 use Rattle.blake2bp.specs.State.{reads, finalized, keeper}
 use borrow.Author.Needs.{needs}
 use Rattle.blake2bp.proofs.state.State.finalize.Statement.{statement}
 use Rattle.blake2bp.proofs.state.State.finalize.Tie as tie
 
-sized : (c : tie.Start) → length (c .args .self .buf) ≡ 1024
+sized : (c : tie.Start) → length (c .args .self .buf) ≡ roombytes
 sized c = search needs
 
 abbrev begun : tie.Else1 → tie.Start

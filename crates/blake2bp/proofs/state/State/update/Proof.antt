@@ -6,7 +6,9 @@ use native.Mathlib.Omega.{arith}
 use borrow.Author.Tests.{le-leb, lt-leb}
 use lib.ListN.{length}
 use Rattle.refusals.specs.Numbers.{accepted, limit}
-use Rattle.blake2bp.specs.State.{total, pushed, reads, updated, keeper}
+use Rattle.blake2bp.specs.Sizes.{roombytes}
+use Rattle.blake2bp.specs.State.{core, machine, total, pushed, reads, updated, keeper}
+use Rattle.laws_states.proofs.Buffers.{Sound}
 use Rattle.members.proofs.Ranges.{Kept, kept}
 use Rattle.refusals.proofs.Picks.{passed, refused, holds, fails}
 use Rattle.blake2bp.specs.declared.state.State.{State}
@@ -16,7 +18,7 @@ use borrow.Author.Needs.{needs}
 use Rattle.blake2bp.proofs.state.State.update.Statement.{statement}
 use Rattle.blake2bp.proofs.state.State.update.Tie as tie
 
-sized : (c : tie.Start) → length (c .args .self .buf) ≡ 1024
+sized : (c : tie.Start) → length (c .args .self .buf) ≡ roombytes
 sized c = search needs
 
 -- what a record that passed the test keeps
@@ -25,6 +27,9 @@ begun c = c .before .before .before
 
 ranged : (c : tie.Else1) → Kept keeper (begun c .args .self)
 ranged c = kept keeper (begun c .args .self) (c .before .range-of .ensures) (c .if1 .left)
+
+sound : (c : tie.Else1) → Sound machine (core (begun c .args .self))
+sound c = record { sized = sized (begun c); held = ranged c .held }
 
 returns : tie.Need-returns
 unfolding updated
@@ -48,7 +53,8 @@ returns-2 c =
     let i = c .before .before in
     let a = begun i .args in
     let r = ranged i in
-    passed _ _ _ (i .before .range-of .ensures) (i .if1 .left) (fails _ _ _ (lt-leb (total (a .self) + length (a .input .now)) limit (omega (arith, r .within, c .if2 .taken))) refl)
+    passed _ _ _ (i .before .range-of .ensures) (i .if1 .left)
+    (fails _ _ _ (lt-leb (total (a .self) + length (a .input .now)) limit (omega (arith, r .within, c .if2 .taken))) refl)
 
 -- and the total stays within its limit
 abbrev passed-tests : tie.Else2 → tie.Else1
@@ -89,7 +95,8 @@ returns-4 c =
     let i = passed-tests e in
     let a = begun i .args in
     let r = ranged i in
-    taken e (taken-fill keeper keeper-laws (a .self) (a .input .now) (record { sized = sized (begun i); held = r .held }) (omega (arith, t .before .if3 .left)) (omega (arith, r .held, t .if4 .taken)) (c .fill-buf .ensures))
+    let fits : a .self .«buf_len» + length (a .input .now) ≤ roombytes = omega (arith, r .held, t .if4 .taken) in
+    taken e (taken-fill keeper keeper-laws (a .self) (a .input .now) (sound i) (omega (arith, t .before .if3 .left)) fits (c .fill-buf .ensures))
 
 spill-requires : tie.Need-spill-requires
 spill-requires c κs =
@@ -104,7 +111,7 @@ returns-5 c =
     let i = passed-tests e in
     let a = begun i .args in
     let r = ranged i in
-    taken e (taken-spill keeper keeper-laws (a .self) (a .input .now) (record { sized = sized (begun i); held = r .held }) (omega (arith, r .held, t .if4 .left)) (c .spill .ensures))
+    taken e (taken-spill keeper keeper-laws (a .self) (a .input .now) (sound i) (omega (arith, r .held, t .if4 .left)) (c .spill .ensures))
 
 pub update-spec : {M : Type 1} → statement M
 update-spec = tie.close (tie.spec (search needs) returns mul-left sub-left sub-left-2 returns-2 take-long-requires returns-3 sub-if4 fill-buf-requires returns-4 spill-requires returns-5)

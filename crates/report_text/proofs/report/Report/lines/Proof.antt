@@ -32,7 +32,8 @@ returns-2 c =
     let p = c .before .before in
     let f = p .before .before .before .before in
     let a = f .before .before .before .before .before .args in
-    lines-readable (a .self) (now (a .out)) (p .put-five .last .0) (p .put-five .result) (f .before .before .if1 .left) (f .finalize .ensures) (p .before .before .count .ensures) (p .put-five .ensures)
+    lines-readable (a .self) (now (a .out)) (p .put-five .last .0) (p .put-five .result) (f .before .before .if1 .left)
+    (f .finalize .ensures) (p .before .before .count .ensures) (p .put-five .ensures)
 
 pub lines-spec : {M : Type 1} → statement M
 lines-spec =

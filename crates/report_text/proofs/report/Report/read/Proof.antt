@@ -18,8 +18,11 @@ returns-2 c =
 
 returns-3 : tie.Need-returns-3
 returns-3 c =
-    let s = c .before .before .before .before .before .before in
-    read-took (s .args .self) (now (s .args .buffer)) (s .args .got) (s .fits .got) (c .before .before .before .before .if1 .left) (c .before .before .before .if2 .left) (c .before .before .count .ensures .1) (c .take .ensures)
+    let n = c .before .before in
+    let e = n .before in
+    let t = e .before in
+    let s = t .before .before in
+    read-took (s .args .self) (now (s .args .buffer)) (s .args .got) (s .fits .got) (t .if1 .left) (e .if2 .left) (n .count .ensures .1) (c .take .ensures)
 
 pub read-spec : {M : Type 1} → statement M
 read-spec =

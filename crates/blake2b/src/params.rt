@@ -16,7 +16,6 @@ use refusals::PERSONAL_LENGTH;
 use refusals::RECORD;
 use refusals::SALT_LENGTH;
 ghost use mathlib.Core.Path.{_≡_};
-ghost use mathlib.Core.Bool.{true};
 ghost use Prim.Native.Nat.{_≤_};
 ghost use lib.Dec.{leb, eqb};
 ghost use lib.ListN.{length};

@@ -1,7 +1,7 @@
 -- A digest of each kind, and a state after one call of F, computed by the checker from the definitions, and what others say they are:
 -- the RFC's appendices, libb2 and the designers' published answers, as tests/vectors/make prints them. Assumes nothing.
 use mathlib.Core.Path.{_≡_, refl}
-use mathlib.Core.Bool.{Bool, true, false}
+use mathlib.Core.Bool.{Bool, true}
 use mathlib.Core.List.{List, [], _∷_, map, flatMap, foldl}
 use Prim.Native.Nat.{ℕ, _+_, _*_, _^_}
 use Rattle.definitions.specs.Words.{rotr, from, pad}

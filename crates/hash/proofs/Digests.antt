@@ -1,14 +1,14 @@
 -- The laws of digests: their range, comparison and hexadecimal, and each answer case by case but those on an output.
 -- Assumes nothing.
 use mathlib.Core.Path.{_≡_, refl, sym, ap, _∙_}
-use mathlib.Core.Bool.{Bool, true, false, cond, and-false, and-eq-true-iff, false≢true}
+use mathlib.Core.Bool.{Bool, true, false, and-false, and-eq-true-iff, false≢true}
 use mathlib.Core.List.{List, [], _∷_, _++_, flatMap}
-use Prim.Native.Nat.{ℕ, _-_, _*_, _<_, _≤_, zero-le}
+use Prim.Native.Nat.{ℕ, _-_, _*_, _<_, _≤_}
 use native.Mathlib.Omega.{arith}
-use borrow.Author.Tests.{le-leb, lt-leb, leb-true, eq-eqb, ne-eqb, eqb-true}
+use borrow.Author.Tests.{le-leb, lt-leb, leb-true, eq-eqb, eqb-true}
 use lib.Dec.{leb, eqb}
-use lib.ListN.{length, take, drop, replicate, length-append, length-drop}
-use lib.Seq.{take-append-seam, drop-append-seam, length-take-le}
+use lib.ListN.{length, take, drop, replicate}
+use lib.Seq.{take-append-seam, length-take-le}
 use Rattle.definitions.specs.Words.{pad}
 use Rattle.laws_words.specs.Bytes.{over}
 use Rattle.laws_words.proofs.Bytes.{pad-whole}

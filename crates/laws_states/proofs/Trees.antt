@@ -1,7 +1,7 @@
--- The leaves over the whole message, and the root over them, are the definitions' tree; and so they are in any cuts. For any family, any
--- number of leaves, and any record that holds a leaf's words. Assumes nothing.
+-- The leaves over the whole message, and the root over them, are the definitions' tree. For any family and any number of leaves.
+-- Assumes nothing.
 use mathlib.Core.Path.{_≡_, refl, sym, ap, _∙_}
-use mathlib.Core.Bool.{Bool, true}
+use mathlib.Core.Bool.{true}
 use mathlib.Core.List.{List, [], _∷_, _++_, map, flatMap, foldl, append-nil, append-assoc}
 use Prim.Native.Nat.{ℕ, zero, suc, _+_, _*_, _/_, _≤_, _<_}
 use native.Mathlib.Nat.{mul-comm, mul-pos, mul-add-div, not-suc-le-zero, suc-ne-zero}
@@ -17,14 +17,11 @@ use Rattle.definitions.specs.Tree as tree
 use Rattle.definitions.proofs.Lengths.{length-pad}
 use Rattle.laws_blocks.specs.Chain.{through}
 use Rattle.laws_blocks.specs.Blocks.{onBytes, throughBlocks}
-use Rattle.laws_states.specs.Buffer.{Held, pending, after, closed, joined}
-use Rattle.laws_states.specs.Deal.{finished, parallel}
+use Rattle.laws_states.specs.Deal.{finished}
 use Rattle.laws_states.specs.Leaves.{rowOf, rooted, keyedRow, leafStarts, rootStart}
-use Rattle.laws_states.proofs.Buffers.{closed-after}
 use Rattle.laws_blocks.proofs.Calls.{untruncated-through, share-calls-through}
 use Rattle.laws_blocks.proofs.Sizes.{length-through}
-use Rattle.laws_states.proofs.Deals.{each-map, parallel-lawful, parallel-late}
-use Rattle.laws_states.proofs.Images.{finished-image}
+use Rattle.laws_states.proofs.Deals.{each-map}
 
 -- a root's state has eight words
 pub length-rooted : (f : Family) (h : List ℕ) (ls : List (List ℕ)) → length (rooted f h ls) ≡ 8 * f .ww
@@ -124,18 +121,3 @@ module _ (f : Family) (some : 0 < f .bb) (n : ℕ) (leaves : 0 < n) where
   unfolding keyedRow
   row-front [] m = refl
   row-front (k ∷ key) m = rw append-nil
-
-  -- and in any cuts: W is what holds a leaf's words, and F the compression on it
-  module _ {W : Type 0} (words : W → List ℕ) (F : W → List ℕ → ℕ → Bool → Bool → W)
-      (same : (w : W) (b : List ℕ) (t : ℕ) (last node : Bool) → words (F w b t last node) ≡ onBytes f (words w) b t last node) where
-    pub tree-any-cuts : (d : ℕ) (key : List ℕ) → length key ≤ bb → (s : Held (List W)) (ps : List (List ℕ))
-        → map words (s .at) ≡ leafStarts f n d (length key) → s .count ≡ 0 → pending s ≡ keyedRow f n key []
-        → take d (rooted f (rootStart f n d (length key)) (map words (closed (finished bb F n) (after (parallel bb F n) s ps)))) ≡ tree.parallel f n d key (joined ps)
-    tree-any-cuts d key short s ps starts none front =
-        let close = finished bb F n in
-        let any-cuts = closed-after (parallel bb F n) (parallel-lawful bb F some n leaves) close (parallel-late bb F some n leaves) s ps in
-        let all : pending s ++ joined ps ≡ keyedRow f n key (joined ps) = rw front (row-front key (joined ps)) in
-        let ends : map words (closed close (after (parallel bb F n) s ps)) ≡ finished bb (onBytes f) n (leafStarts f n d (length key)) 0 (keyedRow f n key (joined ps)) =
-        ap (map words) any-cuts ∙ finished-image words bb F (onBytes f) same n (s .at) (s .count) (pending s ++ joined ps)
-        ∙ (λ i. finished bb (onBytes f) n (starts i) (none i) (all i)) in
-        ap (λ (ls : List (List ℕ)). take d (rooted f (rootStart f n d (length key)) ls)) ends ∙ rooted-is-tree d key (joined ps) short

@@ -8,8 +8,8 @@ use native.Mathlib.Numerals.{add-one}
 use native.Mathlib.Omega.{arith}
 use lib.Dec.{lit<}
 use lib.Pow.{shr-shr}
-use lib.ListN.{length, take, drop, set, replicate, length-append, length-replicate, List·getD-append}
-use lib.Seq.{drop-cons, getD-append-add, length-take-le, set-at, append-snoc, take-suc}
+use lib.ListN.{length, take, drop, replicate, length-append, length-replicate, List·getD-append}
+use lib.Seq.{drop-cons, getD-append-add}
 use Rattle.definitions.specs.Words.{_!_, word, bytes, part, pad}
 use Rattle.definitions.specs.Family.{Family}
 use Rattle.definitions.specs.Hash.{words}
@@ -72,20 +72,6 @@ flat-at n (x ∷ h) (suc i) j b c =
     ∙ getD-append-add (bytes n x) (flatMap (bytes n) h) (i * n + j) 0
     ∙ flat-at n h i j (le-of-suc-le-suc b) c
 
--- a turn of a loop that copies bytes over zeros
-pub pad-more : (n : ℕ) (b : List ℕ) (i : ℕ) → i < length b → i < n → set (pad n (take i b)) i (b ! i) ≡ pad n (take (i + 1) b)
-unfolding pad
-pad-more n b i h g =
-    let l : length (take i b) ≡ i = length-take-le i b (omega arith) in
-    let m : length (take (suc i) b) ≡ suc i = length-take-le (suc i) b (omega arith) in
-    let e : n - i ≡ suc (n - suc i) = omega arith in
-    let z : List ℕ = replicate (n - suc i) 0 in
-    ap (λ (k : ℕ). set (take i b ++ replicate k 0) i (b ! i)) (ap (λ (k : ℕ). n - k) l ∙ e)
-    ∙ set-at (take i b) 0 z (b ! i) i l
-    ∙ sym (append-snoc (take i b) (b ! i) z)
-    ∙ (λ j. sym (take-suc b i 0 h) j ++ replicate (n - sym m j) 0)
-    ∙ ap (λ (k : ℕ). take k b ++ replicate (n - length (take k b)) 0) (sym (add-one i))
-
 pub length-zeros : (n : ℕ) → length (zeros n) ≡ n
 unfolding zeros
 length-zeros n = length-replicate n 0
@@ -93,18 +79,3 @@ length-zeros n = length-replicate n 0
 pub pad-whole : (n : ℕ) (b : List ℕ) → length b ≡ n → pad n b ≡ b
 unfolding pad
 pad-whole n b e = ap (λ (k : ℕ). b ++ replicate k 0) (ap (λ (k : ℕ). n - k) e ∙ sub-self n) ∙ append-nil b
-
--- padding changes no place: behind the end there are zeros either way
-zeros-at : (m k : ℕ) → replicate m 0 ! k ≡ 0
-zeros-at zero k = refl
-zeros-at (suc m) zero = refl
-zeros-at (suc m) (suc k) = zeros-at m k
-
-append-zeros-at : (b : List ℕ) (m k : ℕ) → (b ++ replicate m 0) ! k ≡ b ! k
-append-zeros-at [] m k = zeros-at m k
-append-zeros-at (x ∷ b) m zero = refl
-append-zeros-at (x ∷ b) m (suc k) = append-zeros-at b m k
-
-pub pad-at : (n : ℕ) (b : List ℕ) (k : ℕ) → pad n b ! k ≡ b ! k
-unfolding pad
-pad-at n b k = append-zeros-at b (n - length b) k

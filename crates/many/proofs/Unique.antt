@@ -1,6 +1,5 @@
 -- Two answers that meet a public promise are equal, for every public function. A weaker promise would be refused here.
 -- Assumes nothing.
-use mathlib.Core.Path.{_≡_}
 use Rattle.hash.proofs.Unique.{Unique, unique}
 use Rattle.many.proofs.placed.HashManyJob.zero.Reads as job-zero
 use Rattle.many.proofs.placed.HashManyJob.new.Reads as job-new

@@ -1,7 +1,7 @@
 -- What is known of the limit of a total: it is the greatest number of a word, and no key comes near it.
 -- Assumes nothing.
 use mathlib.Core.Path.{_≡_, refl}
-use Prim.Native.Nat.{ℕ, _-_, _^_, _≤_}
+use Prim.Native.Nat.{_-_, _^_, _≤_}
 use native.Mathlib.Omega.{arith}
 use Rattle.refusals.specs.Numbers.{limit}
 

@@ -1,7 +1,7 @@
 -- `portable::blocks::compress1_loop` meets its contract. The loop's invariant: k blocks have gone, and block k is there.
 -- Assumes nothing.
 use mathlib.Core.Path.{_≡_, sym, ap, _∙_}
-use mathlib.Core.Bool.{Bool, _&&_}
+use mathlib.Core.Bool.{_&&_}
 use mathlib.Core.List.{List}
 use Prim.Native.Nat.{ℕ, _+_, _-_, _^_, _≤_, min}
 use native.Mathlib.Omega.{arith}
@@ -11,7 +11,7 @@ use lib.ListN.{length, drop}
 use Rattle.definitions.specs.Family.{BLAKE2b}
 use Rattle.laws_words.proofs.Bytes.{length-zeros}
 use Rattle.laws_blocks.specs.Blocks.{throughBlocks}
-use Rattle.laws_blocks.proofs.Turns.{Ready, Reached, Turned, buffer-long, ready, begun, block-long, count-fits, turned}
+use Rattle.laws_blocks.proofs.Turns.{Reached, Turned, buffer-long, ready, begun, block-long, count-fits, turned}
 use Rattle.guts.specs.declared.FinalFacts.{FinalFacts}
 use Rattle.portable.proofs.Strides.{row-wide}
 use Rattle.portable.proofs.blocks.compress1_loop.Statement.{statement}

@@ -102,7 +102,7 @@ module _ (w : Work) (n : ℕ) {good : Bool} (e : good ≡ workInRange w n) {r : 
   unfolding workHash
   hash-unfinished h g f = rw (sym e ∙ not-false good h, not-true (w .finished) g) f
 
-  pub hash-finished : not good ≡ false → not (w .finished) ≡ false → {d : List ℕ} → length d ≡ 64 → d ≡ stateBytes BLAKE2b (w .words) → r ≡ madeFrom d (w .«hash_length»)
+  pub hash-finished : not good ≡ false → not (w .finished) ≡ false → {d : List ℕ} → length d ≡ outbytes → d ≡ stateBytes BLAKE2b (w .words) → r ≡ madeFrom d (w .«hash_length»)
       → r ≡ workHash w n
   unfolding workHash
   hash-finished h g {d} l b f =

@@ -301,7 +301,9 @@ update-many-spec 𝓤 H 𝓜 𝓖 𝓡 =
     (λ κs qs bounds b g are. via 𝓤 _ (fst∗ 𝓤 _ (emp 𝓤))
     (walk 𝓤 H (𝓖 .A) (givenOf 𝓤 H 𝓜 𝓖) (𝓜 .mem) (𝓡 .run) (κs .0) (κs .1 .0) (qs .0) (qs .1 .0) (b .0) (b .1 .0) (b .1 .1 .0) (are .0) (are .1 .0 .0 .1)
     (tablesOf 𝓤 H 𝓜 (tables 𝓤 H 𝓜 𝓡 code.env))
-    (cited 𝓤 H (contractOf 𝓤 H (𝓖 .A) blank-fn.ended (blank-fn.clauses 𝓤 H (𝓖 .A) (𝓜 .mem) (𝓡 .run))) 𝓜 𝓡 code.env blank-def.name blank-def.routine code.calls-bank-lent·blank (blank-thm.met 𝓤 H 𝓜 𝓖 𝓡))
-    (cited 𝓤 H (contractOf 𝓤 H (𝓖 .A) stored.ended (stored.clauses 𝓤 H (𝓖 .A) (𝓜 .mem) (𝓡 .run))) 𝓜 𝓡 code.env stored-def.name stored-def.routine code.calls-bank-lent·stored (stored-thm.met 𝓤 H 𝓜 𝓖 𝓡))
+    (cited 𝓤 H (contractOf 𝓤 H (𝓖 .A) blank-fn.ended (blank-fn.clauses 𝓤 H (𝓖 .A) (𝓜 .mem) (𝓡 .run))) 𝓜 𝓡 code.env
+    blank-def.name blank-def.routine code.calls-bank-lent·blank (blank-thm.met 𝓤 H 𝓜 𝓖 𝓡))
+    (cited 𝓤 H (contractOf 𝓤 H (𝓖 .A) stored.ended (stored.clauses 𝓤 H (𝓖 .A) (𝓜 .mem) (𝓡 .run))) 𝓜 𝓡 code.env
+    stored-def.name stored-def.routine code.calls-bank-lent·stored (stored-thm.met 𝓤 H 𝓜 𝓖 𝓡))
     (cited 𝓤 H (contractOf 𝓤 H (𝓖 .A) batch.ended (batch.clauses 𝓤 H (𝓖 .A) (𝓜 .mem) (𝓡 .run))) 𝓜 𝓡 code.env batch-def.name batch-def.routine code.calls-bank-lent·batch (batch-thm.met 𝓤 H 𝓜 𝓖 𝓡))
     (are .1 .0) (are .1 .1 .0)))

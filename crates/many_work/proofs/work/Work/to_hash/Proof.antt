@@ -4,10 +4,11 @@ use mathlib.Core.Path.{_≡_}
 use lib.ListN.{length}
 use Rattle.many_work.proofs.Works.{hash-bad, hash-unfinished, hash-finished}
 use borrow.Author.Needs.{needs}
+use Rattle.blake2b_state.specs.Sizes.{outbytes}
 use Rattle.many_work.proofs.work.Work.to_hash.Statement.{statement}
 use Rattle.many_work.proofs.work.Work.to_hash.Tie as tie
 
-state-long : (c : tie.After-write-words) → length (c .write-words .result) ≡ 64
+state-long : (c : tie.After-write-words) → length (c .write-words .result) ≡ outbytes
 state-long c = search needs
 
 returns : tie.Need-returns

@@ -7,7 +7,7 @@ use Prim.Native.Nat.{ℕ, _<_, _≤_, zero-le}
 use native.Mathlib.Omega.{arith}
 use borrow.Author.Tests.{le-leb, lt-leb, leb-true}
 use lib.Dec.{leb}
-use lib.ListN.{length, take, drop, length-append, length-drop}
+use lib.ListN.{length, drop, length-append, length-drop}
 use lib.Seq.{paste, take-append-seam, drop-append-seam}
 use Rattle.laws_words.specs.Bytes.{over}
 use Rattle.laws_words.proofs.Stores.{paste-front}

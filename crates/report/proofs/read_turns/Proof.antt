@@ -13,4 +13,9 @@ abbrev μ-loop : tie.MeasureT-loop
 μ-loop space₀ reading₀ turns₀ space reading turns = turns
 
 pub read-turns-spec : {M : Type 1} → statement M
-read-turns-spec = tie.close (tie.spec Inv-loop μ-loop (search needs) (search needs) (search needs) (search needs) (search needs) (search needs) (search needs) (search needs) (search needs) (search needs))
+read-turns-spec =
+    tie.close
+    (tie.spec
+    Inv-loop
+    μ-loop
+    (search needs) (search needs) (search needs) (search needs) (search needs) (search needs) (search needs) (search needs) (search needs) (search needs))

@@ -1,10 +1,10 @@
 -- `leaves::leaves::run_leaves` meets its contract. The loop's invariant: the first i leaves were run.
 -- Assumes nothing.
-use mathlib.Core.Path.{_≡_, refl, ap, _∙_}
+use mathlib.Core.Path.{_≡_, refl}
 use Prim.Native.Nat.{_≤_, _-_}
 use native.Mathlib.Omega.{arith}
 use borrow.Author.Needs.{needs}
-use lib.ListN.{length, length-drop}
+use lib.ListN.{length-drop}
 use Rattle.laws_states.specs.Deal.{each, leafThrough}
 use Rattle.laws_states.proofs.Deals.{leaf-turn}
 use Rattle.guts.specs.Guts.{finalizes}

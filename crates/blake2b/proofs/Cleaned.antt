@@ -40,12 +40,12 @@ good-answered p ts changed g d =
     (record { number = accepted; params = changed }) (λ n. record { number = n; params = p }) (λ h. d (h .1)) (λ n. g)
 
 -- the three tests of the range
-record Tests (p : Params) : Type 0 where
-  digest : isDigestLength (p .«hash_length») ≡ true
-  short : leb (p .«key_length») keybytes ≡ true
-  inner : leb (p .«inner_hash_length») outbytes ≡ true
+pub record Tests (p : Params) : Type 0 where
+  pub digest : isDigestLength (p .«hash_length») ≡ true
+  pub short : leb (p .«key_length») keybytes ≡ true
+  pub inner : leb (p .«inner_hash_length») outbytes ≡ true
 
-tests : (p : Params) → inRange p ≡ true → Tests p
+pub tests : (p : Params) → inRange p ≡ true → Tests p
 unfolding inRange
 tests p e =
     let d = and-eq-true-iff (isDigestLength (p .«hash_length»)) (leb (p .«key_length») keybytes && leb (p .«inner_hash_length») outbytes) .0 e in

@@ -1,7 +1,7 @@
 -- BLAKE2b is a member: the laws of one, and what parameters owe a state, the key block in front of the message and RFC 7693's digest.
 -- Assumes nothing.
 use mathlib.Core.Path.{_≡_, refl}
-use mathlib.Core.Bool.{Bool, true, false, cond, _&&_, and-eq-true-iff}
+use mathlib.Core.Bool.{Bool, true, false, cond}
 use mathlib.Core.List.{List, [], _++_}
 use Prim.Native.Nat.{ℕ, _+_, _≤_}
 use native.Mathlib.Omega.{arith}
@@ -16,7 +16,7 @@ use Rattle.refusals.proofs.Limits.{wide}
 use Rattle.members.proofs.Closings.{one-digest}
 use Rattle.members.proofs.Laws.{Laws, Begun}
 use Rattle.hash.specs.Hash.{isDigestLength}
-use Rattle.blake2b_state.specs.Sizes.{blockbytes, outbytes, keybytes}
+use Rattle.blake2b_state.specs.Sizes.{blockbytes}
 use Rattle.blake2b_state.specs.State.{keyFront, core, machine, pushed, total}
 use Rattle.blake2b_state.specs.declared.state.State.{State}
 use Rattle.blake2b_state.proofs.States.{lawful}
@@ -24,14 +24,14 @@ use Rattle.blake2b_state.proofs.States as states
 use Rattle.blake2b.specs.Params.{inRange, asked, front}
 use Rattle.blake2b.specs.Member.{fresh, member}
 use Rattle.blake2b.specs.declared.params.Params.{Params}
+use Rattle.blake2b.proofs.Cleaned.{tests}
 
 pub laws : Laws member
 laws = record { keeper = states.laws; key-fits = omega (arith, wide); key-held = omega arith; starts = λ p. refl }
 
 -- parameters in range ask for a digest length
 pub digest-asked : (p : Params) → inRange p ≡ true → isDigestLength (p .«hash_length») ≡ true
-unfolding inRange
-digest-asked p e = and-eq-true-iff (isDigestLength (p .«hash_length»)) (leb (p .«key_length») keybytes && leb (p .«inner_hash_length») outbytes) .0 e .0
+digest-asked p e = tests p e .digest
 
 pub total-pushed : (s : State) (a : List ℕ) → Sound machine (core s) → total (pushed s a) ≡ total s + length a
 unfolding buffer.tally

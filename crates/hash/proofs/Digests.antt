@@ -5,24 +5,25 @@ use mathlib.Core.Bool.{Bool, true, false, and-false, and-eq-true-iff, false≢tr
 use mathlib.Core.List.{List, [], _∷_, _++_, flatMap}
 use Prim.Native.Nat.{ℕ, _-_, _*_, _<_, _≤_}
 use native.Mathlib.Omega.{arith}
-use borrow.Author.Tests.{le-leb, lt-leb, leb-true, eq-eqb, eqb-true}
-use lib.Dec.{leb, eqb}
+use borrow.Author.Tests.{le-leb, lt-leb, eq-eqb, eqb-true}
+use lib.Dec.{eqb}
 use lib.ListN.{length, take, drop, replicate}
 use lib.Seq.{take-append-seam, length-take-le}
 use Rattle.definitions.specs.Words.{pad}
 use Rattle.laws_words.specs.Bytes.{over}
 use Rattle.laws_words.proofs.Bytes.{pad-whole}
 use Rattle.refusals.specs.Numbers.{accepted, digest-length, bad-record}
+use Rattle.refusals.proofs.Lengths.{length-is, length-bounds}
 use Rattle.hash.specs.Sizes.{longest, longestHex}
 use Rattle.hash.specs.Hash.{isDigestLength, hashInRange, hashOf, digestOf, zeroHash, noHash, madeFrom, lengthAnswered, sameBytes, compared, hexOf}
 use Rattle.hash.specs.declared.Hash.{Hash}
 use Rattle.hash.specs.declared.HashAnswer.{HashAnswer}
 
 pub digest-length-is : (n : ℕ) → 1 ≤ n → n ≤ longest → isDigestLength n ≡ true
-digest-length-is n a b = rw (le-leb 1 n a, le-leb n longest b)
+digest-length-is = length-is longest
 
 pub digest-length-bounds : (n : ℕ) → isDigestLength n ≡ true → (1 ≤ n) × (n ≤ longest)
-digest-length-bounds n e = let p = and-eq-true-iff (leb 1 n) (leb n longest) .0 e in (leb-true 1 n (p .0), leb-true n longest (p .1))
+digest-length-bounds = length-bounds longest
 
 pub hash-in-range : (d : List ℕ) → 1 ≤ length d → length d ≤ longest → hashInRange (hashOf d) ≡ true
 unfolding hashInRange

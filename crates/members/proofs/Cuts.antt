@@ -1,11 +1,10 @@
 -- A fresh state and the pieces of a message: in any cuts its digest is the paper's of the joined bytes, and its count their number.
 -- Assumes nothing.
 use mathlib.Core.Path.{_≡_, sym, ap, _∙_}
-use mathlib.Core.Bool.{Bool, true, false, cond, and-eq-true-iff}
+use mathlib.Core.Bool.{Bool, true, false, cond}
 use mathlib.Core.List.{List, [], _∷_, _++_, foldl, append-nil, append-assoc}
 use Prim.Native.Nat.{ℕ, _+_, _-_, _≤_}
 use native.Mathlib.Omega.{arith}
-use borrow.Author.Tests.{leb-true}
 use lib.Dec.{leb}
 use lib.ListN.{length, replicate}
 use lib.Seq.{take-append-seam}
@@ -15,7 +14,8 @@ use Rattle.laws_states.specs.Buffer.{Held, joined}
 use Rattle.laws_states.specs.Buffer as buffer
 use Rattle.laws_states.proofs.Buffers.{Sound}
 use Rattle.laws_states.proofs.TwoRows as rows
-use Rattle.refusals.specs.Numbers.{total-over, isLength}
+use Rattle.refusals.specs.Numbers.{total-over}
+use Rattle.refusals.proofs.Lengths.{length-bounds}
 use Rattle.members.specs.Keeper.{totalOf, keyRow, Keeper, pending, pushed, total, inRange, closedDigest, updated, finalized, counts, stateTaker}
 use Rattle.members.specs.Member.{Member, limit, reached}
 use Rattle.members.proofs.Laws.{Laws, Begun}
@@ -65,7 +65,7 @@ module _ {P S L : Type 0} (m : Member P S L) (laws : Laws m) (p : P) (begun : Be
   range-fresh =
       let s = m .fresh p in
       let t = total-fresh in
-      let d = length-bounds (keeper .hashLength s) (begun .asked) in
+      let d = length-bounds (bounds .most) (keeper .hashLength s) (begun .asked) in
       ranged bounds (keeper .hashLength s) (core s .buflen) (core s .count) (keeper .keyed s)
       (record {
         least = d .0;
@@ -74,9 +74,6 @@ module _ {P S L : Type 0} (m : Member P S L) (laws : Laws m) (p : P) (begun : Be
         within = omega (arith, ahead-within);
         front = omega (arith, begun .ahead-is);
       })
-    where
-      length-bounds : (n : ℕ) → isLength (bounds .most) n ≡ true → (1 ≤ n) × (n ≤ bounds .most)
-      length-bounds n e = let q = and-eq-true-iff (leb 1 n) (leb n (bounds .most)) .0 e in (leb-true 1 n (q .0), leb-true n (bounds .most) (q .1))
 
   module _ (ps : List (List ℕ)) where
     abbrev s : S

@@ -6,6 +6,7 @@ use Prim.Native.Nat.{ℕ, _<_, _≤_}
 use borrow.Author.Tests.{not-true, not-false, le-leb, lt-leb, leb-true}
 use lib.Dec.{leb}
 use Rattle.refusals.specs.Numbers.{isLength}
+use Rattle.refusals.proofs.Lengths.{length-is, length-bounds}
 use Rattle.members.specs.Keeper.{Bounds, totalOf, keyRow, rangeOf, Keeper, inRange}
 
 module _ (z : Bounds) (n b t : ℕ) (keyed : Bool) where
@@ -41,12 +42,12 @@ module _ (z : Bounds) (n b t : ℕ) (keyed : Bool) where
       let fronted = leb (keyRow z keyed) (totalOf z t b) in
       let rest = leb (totalOf z t b) (z .limit) && fronted in
       let p = and-eq-true-iff (isLength (z .most) n) (leb b (z .room) && rest) .0 e in
-      let d = and-eq-true-iff (leb 1 n) (leb n (z .most)) .0 (p .0) in
+      let d = length-bounds (z .most) n (p .0) in
       let q = and-eq-true-iff (leb b (z .room)) rest .0 (p .1) in
       let r = and-eq-true-iff (leb (totalOf z t b) (z .limit)) fronted .0 (q .1) in
       record {
-        least = leb-true 1 n (d .0);
-        most = leb-true n (z .most) (d .1);
+        least = d .0;
+        most = d .1;
         held = leb-true b (z .room) (q .0);
         within = leb-true (totalOf z t b) (z .limit) (r .0);
         front = leb-true (keyRow z keyed) (totalOf z t b) (r .1);
@@ -56,7 +57,7 @@ module _ (z : Bounds) (n b t : ℕ) (keyed : Bool) where
   pub ranged : InRange → rangeOf z n b t keyed ≡ true
   unfolding rangeOf
   ranged r =
-      rw (le-leb 1 n (r .least), le-leb n (z .most) (r .most), le-leb b (z .room) (r .held), le-leb (totalOf z t b) (z .limit) (r .within))
+      rw (length-is (z .most) n (r .least) (r .most), le-leb b (z .room) (r .held), le-leb (totalOf z t b) (z .limit) (r .within))
       (le-leb (keyRow z keyed) (totalOf z t b) (r .front))
 
 -- of a state that passed the test

@@ -23,7 +23,7 @@ pending-fresh : (p : Params) → pending (fresh p) ≡ front p
 unfolding buffer.pending pad
 pending-fresh p = take-append-seam (front p) (replicate (blockbytes - length (front p)) 0)
 
-module _ (p : Params) (whole : length (p .«key_block») ≡ blockbytes) (bytes : List ℕ) where
+module _ (p : Params) (bytes : List ℕ) where
   -- an exact last block waits too: of T bytes, (T - 1) / 128 blocks have gone
   pub blocks-gone : pushed (fresh p) bytes .count ≡ blockbytes * spare blockbytes 0 (length (front p ++ bytes))
   blocks-gone =

@@ -2,6 +2,6 @@ pub mod Buffered
 pub mod Cleaned
 pub mod OneShot
 pub mod Plain
-pub mod Pushes
+pub mod Members
 pub mod Rows
 pub mod Unique

@@ -26,7 +26,7 @@ use Rattle.blake2b.specs.Member.{fresh, digest, hashed, member}
 use Rattle.blake2b.specs.declared.params.Params.{Params}
 use Rattle.blake2b_state.specs.declared.state.StateAnswer.{StateAnswer}
 use Rattle.blake2b.proofs.Cleaned.{good-defaults}
-use Rattle.blake2b.proofs.Pushes.{laws, digest-asked, begun}
+use Rattle.blake2b.proofs.Members.{laws, digest-asked, begun}
 use Rattle.blake2b_state.proofs.States.{faithful, last-node-is}
 
 module _ (p : Params) (whole : length (p .«key_block») ≡ blockbytes) (good : inRange p ≡ true) (m : List ℕ) where

@@ -33,7 +33,7 @@ use Rattle.blake2b_state.specs.State as state
 use Rattle.blake2b.specs.Row.{Change, update, set-last-node, stateTaker, rowTaker, stateCalls, rowCalls}
 use Rattle.blake2b.specs.declared.params.Params.{Params}
 use Rattle.blake2b_state.specs.declared.state.State.{State}
-use Rattle.blake2b.proofs.Pushes.{laws, front-short, sound-fresh, begun}
+use Rattle.blake2b.proofs.Members.{laws, front-short, sound-fresh, begun}
 use Rattle.blake2b_state.proofs.States as states
 use Rattle.blake2b_state.proofs.States.{lawful, tight, faithful}
 

@@ -21,6 +21,7 @@ use Rattle.blake2b.proofs.params.Params.is_last_node.Reads as params-is
 use Rattle.blake2b.proofs.params.Params.to_words.Reads as params-to-words
 use Rattle.blake2b.proofs.params.Params.to_state.Reads as params-to-state
 use Rattle.blake2b.proofs.params.Params.hash.Reads as params-hash
+use Rattle.blake2b_state.proofs.state.State.begin.Reads as state-begin
 use Rattle.blake2b_state.proofs.state.State.new.Reads as state-new
 use Rattle.blake2b_state.proofs.state.State.zero.Reads as state-zero
 use Rattle.blake2b_state.proofs.state.State.in_range.Reads as state-in-range
@@ -89,6 +90,9 @@ params-to-state-unique κs args r q exit e f = unique e f
 
 pub params-hash-unique : Unique params-hash.Post
 params-hash-unique κs args r q exit e f = unique e f
+
+pub state-begin-unique : Unique state-begin.Post
+state-begin-unique κs args r q exit e f = unique e f
 
 pub state-new-unique : Unique state-new.Post
 state-new-unique κs args r q exit e f = unique e f

@@ -16,6 +16,7 @@ use refusals::PERSONAL_LENGTH;
 use refusals::RECORD;
 use refusals::SALT_LENGTH;
 ghost use mathlib.Core.Path.{_≡_};
+ghost use mathlib.Core.Bool.{true};
 ghost use Prim.Native.Nat.{_≤_};
 ghost use lib.Dec.{leb, eqb};
 ghost use lib.ListN.{length};
@@ -289,17 +290,19 @@ impl Params {
 
     // The state of no message bytes.
     pub(crate) fn with_params(self) -> State
+        requires { ⌜ inRange self ≡ true ⌝ }
         ensures { λ r. ⌜ r ≡ fresh self ⌝ }
     {
         let words = self.to_words();
         let key_block = self.key_block;
-        State::begin(
+        let answer = State::begin(
             words,
             self.hash_length,
             self.last_node,
             self.is_keyed(),
             key_block,
-        )
+        );
+        answer.state
     }
 
     pub fn to_state(self) -> StateAnswer

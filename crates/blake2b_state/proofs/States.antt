@@ -17,9 +17,10 @@ use Rattle.members.proofs.Laws as members
 use Rattle.members.proofs.Promises.{Faithful}
 use Rattle.members.proofs.Closings.{one-late}
 use Rattle.guts.specs.Guts.{isLastNode}
+use Rattle.hash.specs.Hash.{isDigestLength}
 use Rattle.hash.proofs.Digests.{digest-of-hash}
 use Rattle.blake2b_state.specs.Sizes.{blockbytes}
-use Rattle.blake2b_state.specs.State.{machine, lastNodeOf, reads, keeper}
+use Rattle.blake2b_state.specs.State.{machine, lastNodeOf, begun, beginning, reads, keeper}
 use Rattle.blake2b_state.specs.declared.state.State.{State}
 
 abbrev pub lawful : Lawful machine
@@ -58,3 +59,8 @@ store = members.store keeper laws
 pub last-node-is : (up : Bool) → isLastNode (lastNodeOf up) ≡ up
 last-node-is true = refl
 last-node-is false = refl
+
+-- a state begins where a digest may have the length
+pub begins : (words : List ℕ) (n : ℕ) (up keyed : Bool) (block : List ℕ) → isDigestLength n ≡ true → beginning words n up keyed block .state ≡ begun words n up keyed block
+unfolding beginning
+begins words n up keyed block e = rw e

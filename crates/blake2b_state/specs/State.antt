@@ -10,7 +10,7 @@ use Rattle.definitions.specs.Hash.{sequential, start, stateBytes}
 use Rattle.laws_words.specs.Bytes.{zeros}
 use Rattle.laws_blocks.specs.Blocks.{onBytes, throughBlocks}
 use Rattle.laws_states.specs.Buffer.{Machine, Held, serial}
-use Rattle.refusals.specs.Numbers.{accepted, bad-record, limit}
+use Rattle.refusals.specs.Numbers.{accepted, digest-length, bad-record, limit}
 use Rattle.refusals.specs.Tests.{test, tested}
 use Rattle.members.specs.Row.{digested}
 use Rattle.members.specs.Row as row
@@ -18,7 +18,7 @@ use Rattle.members.specs.Keeper.{Bounds, Keeper, Reads}
 use Rattle.members.specs.Keeper as calls
 use Rattle.guts.specs.declared.LastNode.{LastNode}
 use Rattle.guts.specs.declared.LastNode.the-variants as lastNode
-use Rattle.hash.specs.Hash.{hashOf, digestOf, noHash}
+use Rattle.hash.specs.Hash.{isDigestLength, hashOf, digestOf, noHash}
 use Rattle.hash.specs.declared.HashAnswer.{HashAnswer}
 use Rattle.blake2b_state.specs.Sizes.{blockbytes, outbytes}
 use Rattle.blake2b_state.specs.declared.state.State.{State}
@@ -66,6 +66,11 @@ begun words hash-length last-node keyed block = record {
   «hash_length» = hash-length;
   «is_keyed» = keyed;
 }
+
+-- and what is answered for it: 1 where no digest has that length
+unfoldable pub beginning : List ℕ → ℕ → Bool → Bool → List ℕ → StateAnswer
+beginning words n last-node keyed block =
+    tested (test (isDigestLength n) digest-length ∷ []) (record { number = accepted; state = begun words n last-node keyed block }) (λ m. record { number = m; state = zeroState })
 
 -- that of RFC 7693's plain hash: no key, and the longest digest
 abbrev pub plain : State

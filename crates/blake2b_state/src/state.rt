@@ -8,6 +8,7 @@ use guts::store;
 use hash::Hash;
 use hash::HashAnswer;
 use hash::OUTBYTES;
+use hash::is_digest_length;
 use members::in_bounds;
 use portable::BLOCKBYTES;
 use portable::Compressed;
@@ -15,6 +16,7 @@ use portable::compress1_loop;
 use portable::parameter_words;
 use portable::zero_block;
 use refusals::ACCEPTED;
+use refusals::DIGEST_LENGTH;
 use refusals::LIMIT;
 use refusals::RECORD;
 use refusals::TOTAL;
@@ -26,7 +28,7 @@ ghost use lib.ListN.{length};
 ghost use Rattle.definitions.specs.Family.{BLAKE2b};
 ghost use Rattle.laws_blocks.specs.Chain.{spare, absorb};
 ghost use Rattle.laws_blocks.specs.Blocks.{onBytes};
-ghost use Rattle.blake2b_state.specs.State.{lastNodeOf, rangeOf, stateInRange, zeroState, begun, plain, pending, moved, updated, lastNodeSet, finalized, counted};
+ghost use Rattle.blake2b_state.specs.State.{lastNodeOf, rangeOf, stateInRange, zeroState, begun, beginning, plain, pending, moved, updated, lastNodeSet, finalized, counted};
 
 pub struct State {
     pub(crate) words: [u64; 8],
@@ -108,6 +110,29 @@ impl State {
         last_node: bool,
         is_keyed: bool,
         key_block: [u8; 128],
+    ) -> StateAnswer
+        ensures { λ r. ⌜ r ≡ beginning words «hash_length» «last_node» «is_keyed» «key_block» ⌝ }
+    {
+        if !is_digest_length(hash_length as usize) {
+            let state = State::zero();
+            return StateAnswer {
+                number: DIGEST_LENGTH,
+                state,
+            };
+        }
+        let state = State::begun(words, hash_length, last_node, is_keyed, key_block);
+        StateAnswer {
+            number: ACCEPTED,
+            state,
+        }
+    }
+
+    fn begun(
+        words: [u64; 8],
+        hash_length: u8,
+        last_node: bool,
+        is_keyed: bool,
+        key_block: [u8; 128],
     ) -> Self
         ensures { λ r. ⌜ r ≡ begun words «hash_length» «last_node» «is_keyed» «key_block» ⌝ }
     {
@@ -140,7 +165,7 @@ impl State {
     {
         let words = parameter_words(64, 0, 1, 1, 0, 0, 0, 0, [0; 16], [0; 16]);
         let block = zero_block();
-        State::begin(words, 64, false, false, block)
+        State::begun(words, 64, false, false, block)
     }
 
     // What a refusal answers in place of a state, and what a closed slot holds.

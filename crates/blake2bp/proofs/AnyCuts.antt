@@ -18,7 +18,7 @@ use Rattle.blake2bp.specs.State.{core, machine, pending, stateInRange, k
 use Rattle.blake2bp.specs.declared.params.Params.{Params}
 use Rattle.blake2bp.specs.declared.state.State.{State}
 use Rattle.blake2bp.proofs.Cleaned.{Good}
-use Rattle.blake2bp.proofs.Pieces.{begun}
+use Rattle.blake2bp.proofs.Fresh.{begun}
 use Rattle.blake2bp.proofs.States.{keeper-laws, laws, faithful}
 
 abbrev pub next : State → List ℕ → State

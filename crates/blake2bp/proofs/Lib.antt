@@ -2,7 +2,7 @@ pub mod AnyCuts
 pub mod Cleaned
 pub mod MessageCount
 pub mod OneShot
-pub mod Pieces
+pub mod Fresh
 pub mod Plain
 pub mod Rows
 pub mod RunCases

@@ -22,7 +22,7 @@ use Rattle.blake2bp.specs.State.{keyBytes, fresh, updated, finalized, di
 use Rattle.blake2bp.specs.declared.params.Params.{Params}
 use Rattle.blake2bp.specs.declared.state.StateAnswer.{StateAnswer}
 use Rattle.blake2bp.proofs.Cleaned.{Good, good-defaults}
-use Rattle.blake2bp.proofs.Pieces.{front-plain, begun}
+use Rattle.blake2bp.proofs.Fresh.{front-plain, begun}
 use Rattle.blake2bp.proofs.Setters.{digest-asked, key-short}
 use Rattle.blake2bp.proofs.States.{laws, faithful}
 

@@ -10,7 +10,7 @@ use Rattle.blake2bp.specs.State as state
 use Rattle.blake2bp.specs.Row.{stateTaker, rowTaker}
 use Rattle.blake2bp.specs.declared.params.Params.{Params}
 use Rattle.blake2bp.proofs.Cleaned.{Good}
-use Rattle.blake2bp.proofs.Pieces.{begun}
+use Rattle.blake2bp.proofs.Fresh.{begun}
 use Rattle.blake2bp.proofs.States.{laws, faithful}
 
 -- whatever a fresh state is asked, it answers as the row of no bytes would

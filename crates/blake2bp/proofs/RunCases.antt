@@ -19,7 +19,7 @@ use Rattle.blake2bp.specs.State.{core, bounds, machine, keeper, member, 
 use Rattle.blake2bp.specs.declared.state.State.{State}
 use Rattle.blake2bp.proofs.AnyCuts.{next}
 use Rattle.blake2bp.proofs.Cleaned.{good-defaults}
-use Rattle.blake2bp.proofs.Pieces.{front-plain, begun}
+use Rattle.blake2bp.proofs.Fresh.{front-plain, begun}
 use Rattle.blake2bp.proofs.States.{lawful, keeper-laws, laws}
 use Rattle.members.specs.Keeper.{totalOf, rangeOf}
 use Rattle.members.proofs.Cuts.{sound-fresh}

@@ -1,14 +1,13 @@
 -- The same steps on a crate's own record, which holds a buffered state beside other fields.
 -- Assumes nothing.
-use mathlib.Core.Path.{_≡_, refl, sym, ap, _∙_}
+use mathlib.Core.Path.{_≡_, refl, ap, _∙_}
 use Prim.Native.Nat.{ℕ, _+_, _-_, _*_, _≤_, _<_}
 use native.Mathlib.Omega.{arith}
-use mathlib.Core.List.{List, [], _∷_, _++_}
+use mathlib.Core.List.{List, [], _++_}
 use lib.ListN.{length, take, drop, length-append, take-append-drop}
 use lib.Seq.{length-take-le}
 use Rattle.laws_blocks.specs.Chain.{spare}
-use Rattle.laws_states.specs.Buffer.{Machine, Held, pending, moved, pushed}
-use Rattle.laws_states.specs.Buffer as buffer
+use Rattle.laws_states.specs.Buffer.{Machine, Held, pending, moved}
 use Rattle.laws_states.proofs.Buffers.{Lawful, Sound, length-pending}
 use Rattle.laws_states.proofs.Steps as steps
 
@@ -23,18 +22,6 @@ pub record Store (S L : Type 0) : Type 0 where
 module _ {S L : Type 0} (o : Store S L) (m : Machine L) (lawful : Lawful m) where
   open Store o using (core, holding, core-holding, holding-holding, holding-core)
   open Lawful lawful using (some, wide)
-
-  -- the state after a list of updates
-  unfoldable pub after : S → List (List ℕ) → S
-  after s [] = s
-  after s (a ∷ ps) = after (holding s (pushed m (core s) a)) ps
-
-  pub after-is : (s : S) (ps : List (List ℕ)) → after s ps ≡ holding s (buffer.after m (core s) ps)
-  unfolding after buffer.after
-  after-is s [] = sym (holding-core s)
-  after-is s (a ∷ ps) =
-      after-is (holding s (pushed m (core s) a)) ps
-      ∙ rw (core-holding s (pushed m (core s) a), holding-holding s (pushed m (core s) a) (buffer.after m (pushed m (core s) a) ps))
 
   -- a move of a moved state
   module _ (s f : S) (all : List ℕ) (k : ℕ) (is : f ≡ holding s (moved m (core s) all k)) where

@@ -1,5 +1,5 @@
 // A hash job: its work, and where its input stands in a buffer that is lent again with the batch.
-// Made, refused, run and asked here; the work itself is the crate `job`'s.
+// Made, refused, run and asked here; the work itself is the crate `many_work`'s.
 use blake2b::Params;
 use hash::HashAnswer;
 use many_work::Work;

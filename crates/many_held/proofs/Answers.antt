@@ -17,7 +17,7 @@ use Rattle.blake2b_state.specs.Sizes.{blockbytes}
 use Rattle.blake2b.specs.Params.{inRange, asked, keyOf, Clean}
 use Rattle.blake2b.specs.Member.{hashed}
 use Rattle.blake2b.specs.declared.params.Params.{Params}
-use Rattle.blake2b.proofs.Pushes.{length-front}
+use Rattle.blake2b.proofs.Members.{length-front}
 use Rattle.blake2b.proofs.Rows.{digest-is-hash}
 use Rattle.many_work.specs.Work.{zeroWork, workInRange, keyBytes, finishedAtOnce, begun, runOn, workHash}
 use Rattle.many_work.specs.declared.work.Work.{Work}

@@ -20,7 +20,7 @@ use Rattle.blake2b_state.specs.Sizes.{blockbytes}
 use Rattle.blake2b.specs.Params.{inRange, asked, front}
 use Rattle.blake2b.specs.Member.{digest, hashed}
 use Rattle.blake2b.specs.declared.params.Params.{Params}
-use Rattle.blake2b.proofs.Pushes.{digest-asked, length-front}
+use Rattle.blake2b.proofs.Members.{digest-asked, length-front}
 use Rattle.many_work.specs.Work.{zeroWork, workInRange, finishedAtOnce, keyBytes, firstWords, begun, ran, runOn, workHash}
 use Rattle.many_work.specs.declared.work.Work.{Work}
 use Rattle.many_work.proofs.Works.{run-finished, run-unfinished}

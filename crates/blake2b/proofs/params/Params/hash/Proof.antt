@@ -38,6 +38,9 @@ returns c =
     let i = c .before .before in
     refused _ _ _ (i .in-range .ensures) (c .before .if1 .taken) (c .refused .ensures)
 
+with-params-requires : tie.Need-with-params-requires
+with-params-requires c κs = good (c .before .before)
+
 -- what the update answers is that of the fresh state
 taken : (c : tie.After-update) → c .update .result ≡ updated (fresh (begun (c .before .before .before .before) .args .self)) (begun (c .before .before .before .before) .args .input .now)
 taken c = c .update .ensures ∙ ap (λ (s : State). updated s (begun (c .before .before .before .before) .args .input .now)) (c .before .with-params .ensures)
@@ -75,7 +78,8 @@ hash-spec =
     (tie.spec
     (search needs) (search needs)
     returns
-    (search needs) (search needs) (search needs)
+    with-params-requires
+    (search needs) (search needs)
     returns-2
     (search needs)
     returns-3

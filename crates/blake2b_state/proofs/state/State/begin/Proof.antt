@@ -1,29 +1,20 @@
 -- `blake2b_state::state::State::begin` meets its contract.
 -- Assumes nothing.
-use mathlib.Core.Path.{_≡_}
+use mathlib.Core.Path.{ap}
 use borrow.Author.Needs.{needs}
-use lib.ListN.{length}
-use Rattle.laws_words.specs.Bytes.{zeros}
-use Rattle.definitions.specs.Words.{pad}
-use Rattle.laws_words.proofs.Bytes.{pad-whole}
-use Rattle.blake2b_state.specs.Sizes.{blockbytes}
-use Rattle.blake2b_state.specs.State.{keyFront}
+use Rattle.refusals.specs.Numbers.{accepted, digest-length}
+use Rattle.refusals.proofs.Picks.{passed, refused}
+use Rattle.blake2b_state.specs.State.{reads, beginning}
 use Rattle.blake2b_state.proofs.state.State.begin.Statement.{statement}
 use Rattle.blake2b_state.proofs.state.State.begin.Tie as tie
 
-whole : (c : tie.Start) → length (c .args .key-block) ≡ blockbytes
-whole c = search needs
-
 returns : tie.Need-returns
-unfolding keyFront
-returns c =
-    let s = c .before in
-    let block = s .args .key-block in
-    rw (c .if1 .taken, pad-whole blockbytes block (whole s), whole s)
+unfolding beginning
+returns c = refused _ _ _ (c .before .before .is-digest-length .ensures) (c .before .if1 .taken) (ap (reads .state digest-length) (c .zero .ensures))
 
 returns-2 : tie.Need-returns-2
-unfolding keyFront pad zeros
-returns-2 c = rw (c .before .if1 .left, c .zero-block .ensures)
+unfolding beginning
+returns-2 c = passed _ _ _ (c .before .before .is-digest-length .ensures) (c .before .if1 .left) (ap (reads .state accepted) (c .begun .ensures))
 
 pub begin-spec : {M : Type 1} → statement M
-begin-spec = tie.close (tie.spec returns (search needs) returns-2)
+begin-spec = tie.close (tie.spec (search needs) (search needs) returns (search needs) returns-2)

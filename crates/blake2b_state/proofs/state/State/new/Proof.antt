@@ -15,7 +15,7 @@ returns : tie.Need-returns
 unfolding start parameterBlock pad zeros
 returns c =
     let b = c .before in
-    c .begin .ensures ∙ (λ j. begun (b .before .parameter-words .ensures j) outbytes false false (b .zero-block .ensures j))
+    c .begun .ensures ∙ (λ j. begun (b .before .parameter-words .ensures j) outbytes false false (b .zero-block .ensures j))
 
 pub new-spec : {M : Type 1} → statement M
 new-spec = tie.close (tie.spec (search needs) (search needs) (search needs) returns)

@@ -5,7 +5,7 @@ use native.Mathlib.Nat.{sub-zero}
 use native.Mathlib.Omega.{arith}
 use lib.ListN.{length}
 use Rattle.blake2bp.specs.Sizes.{keybytes}
-use Rattle.blake2bp.proofs.Pieces.{fresh-keyed, fresh-plain}
+use Rattle.blake2bp.proofs.Fresh.{fresh-keyed, fresh-plain}
 use borrow.Author.Needs.{needs}
 use Rattle.blake2bp.proofs.params.Params.with_params.Statement.{statement}
 use Rattle.blake2bp.proofs.params.Params.with_params.Tie as tie

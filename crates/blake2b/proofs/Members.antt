@@ -2,24 +2,20 @@
 -- Assumes nothing.
 use mathlib.Core.Path.{_≡_, refl}
 use mathlib.Core.Bool.{Bool, true, false, cond}
-use mathlib.Core.List.{List, [], _++_}
-use Prim.Native.Nat.{ℕ, _+_, _≤_}
+use mathlib.Core.List.{[], _++_}
+use Prim.Native.Nat.{_+_, _≤_}
 use native.Mathlib.Omega.{arith}
 use lib.Dec.{leb}
 use lib.ListN.{length}
 use Rattle.definitions.specs.Family.{BLAKE2b}
 use Rattle.definitions.proofs.Lengths.{length-pad}
-use Rattle.laws_states.specs.Buffer as buffer
 use Rattle.laws_states.proofs.Buffers.{Sound}
-use Rattle.laws_states.proofs.Buffers as buffers
 use Rattle.refusals.proofs.Limits.{wide}
 use Rattle.members.proofs.Closings.{one-digest}
 use Rattle.members.proofs.Laws.{Laws, Begun}
 use Rattle.hash.specs.Hash.{isDigestLength}
 use Rattle.blake2b_state.specs.Sizes.{blockbytes}
-use Rattle.blake2b_state.specs.State.{keyFront, core, machine, pushed, total}
-use Rattle.blake2b_state.specs.declared.state.State.{State}
-use Rattle.blake2b_state.proofs.States.{lawful}
+use Rattle.blake2b_state.specs.State.{keyFront, core, machine}
 use Rattle.blake2b_state.proofs.States as states
 use Rattle.blake2b.specs.Params.{inRange, asked, front}
 use Rattle.blake2b.specs.Member.{fresh, member}
@@ -32,10 +28,6 @@ laws = record { keeper = states.laws; key-fits = omega (arith, wide); key-held =
 -- parameters in range ask for a digest length
 pub digest-asked : (p : Params) → inRange p ≡ true → isDigestLength (p .«hash_length») ≡ true
 digest-asked p e = tests p e .digest
-
-pub total-pushed : (s : State) (a : List ℕ) → Sound machine (core s) → total (pushed s a) ≡ total s + length a
-unfolding buffer.tally
-total-pushed s a sound = buffers.tally-pushed machine lawful 1 refl (core s) a sound
 
 module _ (p : Params) (whole : length (p .«key_block») ≡ blockbytes) where
   pub length-front : length (front p) ≡ cond (leb 1 (p .«key_length»)) blockbytes 0

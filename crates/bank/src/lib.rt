@@ -1,3 +1,5 @@
+#![tactic(auto)]
+
 // Module 6: sixteen slots, each for one BLAKE2b state, and batches of pieces for them.
 // Public: every call is total, and its promise is a step of the rules in specs/Rules.antt.
 mod bank;

@@ -1,3 +1,5 @@
+#![tactic(auto)]
+
 // The bank's batch over a lent list of records, thin, above the form with an array of sixteen.
 // Public: both calls are total, and promise the bank's own step `update_many`, which `bank`'s history is about.
 ghost use Rattle.std.specs.Prelude.{◌≡◌, ◌<◌, ◌≤◌, length, set};

@@ -1,3 +1,5 @@
+#![tactic(auto)]
+
 // Module 3: BLAKE2b with all its parameters, one-shot or piece by piece; its digests are of the crate hash.
 // Public: every call is total, and its promise settles its whole answer.
 mod one_shot;

@@ -1,3 +1,5 @@
+#![tactic(auto)]
+
 // Module 5: BLAKE2bp, four leaves and a root over them, one-shot or piece by piece. A digest is `hash`'s `Hash`.
 // Public: every call is total, and its promise settles its whole answer.
 mod counts;

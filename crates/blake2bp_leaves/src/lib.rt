@@ -1,3 +1,5 @@
+#![tactic(auto)]
+
 // The tree below BLAKE2bp: four leaves that are dealt blocks, and the root over their states, from plain numbers and bytes.
 // Internal: a caller keeps the limits that the functions require.
 mod counts;

@@ -1,3 +1,5 @@
+#![tactic(auto)]
+
 // F of RFC 7693: the message schedule, the twelve rounds and the compression of a block.
 // Internal: compress_block has one caller, so that the compiler inlines it there.
 ghost use Rattle.std.specs.Prelude.{◌≡◌, ◌+◌, ◌*◌, ◌^◌, ◌<◌, length};

@@ -1,3 +1,5 @@
+#![tactic(auto)]
+
 // What a program in C or Rust links: the block loop, the bytes of a state, and BLAKE2b one-shot and through a state.
 // The digests are promised to be RFC 7693's; the block loop and the bytes are for the benchmarks, safe by proof with no promise.
 // It has one caller of compress_block, the loop, as the library has: a second one would keep the compiler from inlining it.

@@ -1,3 +1,5 @@
+#![tactic(auto)]
+
 // What a program in C or Rust links to measure a bank against a state, and hash jobs against one-shot hashes.
 // Test code: safe by proof, with no promise of its own. Each call makes its records, since they go by value, and asks them `times` times.
 ghost use Rattle.std.specs.Prelude.{◌≡◌, length};

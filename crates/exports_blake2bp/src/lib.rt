@@ -1,3 +1,5 @@
+#![tactic(auto)]
+
 // What a program in C or Rust links of BLAKE2bp: one-shot, promised to be the paper's digest.
 // It is apart from `exports` so that BLAKE2b is linked and checked without it.
 ghost use Rattle.std.specs.Prelude.{◌≡◌, [], length};

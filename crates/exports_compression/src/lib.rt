@@ -1,3 +1,5 @@
+#![tactic(auto)]
+
 // What a program in C or Rust links to compare the compression of one block, at counts that no message reaches.
 // Test code: safe by proof, with no promise of its own. It stands apart from exports, where a second caller of compress_block would
 // keep the compiler from inlining it.

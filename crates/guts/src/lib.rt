@@ -1,3 +1,5 @@
+#![tactic(auto)]
+
 // Module 1, the helpers of guts.rs: what a run of the block loop is told, the block at an offset, and bytes stored in a buffer.
 // A block is made ready, then handed back, and its facts are asked for: three calls for the Rust's one. Nothing here has a width:
 // a block is as long as its buffer. Internal.

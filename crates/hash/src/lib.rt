@@ -1,3 +1,5 @@
+#![tactic(auto)]
+
 // A digest: its bytes, its comparison, and what is written of it to a lent output. Public: every call is total.
 // Bytes behind the length are zero; a refusal's zero record is the one that is out of range.
 mod comparison;

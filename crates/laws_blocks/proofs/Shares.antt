@@ -1,6 +1,6 @@
 -- A leaf's chain over the message, a row at a time, is the chain over the leaf's share of it, for any number of leaves.
 -- Assumes nothing.
-use mathlib.Core.Path.{◌≡◌, refl}
+use mathlib.Core.Path.{◌≡◌, refl, sym, subst}
 use Prim.Native.Nat.{ℕ, zero, suc, ◌+◌, ◌-◌, ◌*◌, ◌/◌, ◌≤◌, ◌<◌, min}
 use native.Mathlib.Nat.{zero-add, le_refl, mul_comm, mul-le-mul_right, le-div_iff_mul-le, mul-pos}
 use native.Mathlib.Omega.{arith}
@@ -14,6 +14,7 @@ use Rattle.definitions.specs.Words.{from, part}
 use Rattle.definitions.specs.Tree.{share}
 use Rattle.laws_blocks.specs.Chain.{spare, block_at, absorb, ended, through}
 use Rattle.laws_blocks.proofs.Rows.{spare_fits, spare_left, spare_none, spare_is}
+use Rattle.laws_blocks.proofs.Chains.{absorb_step}
 
 -- the first bb bytes of each of k rows of st bytes
 unfoldable picked : ℕ → ℕ → List ℕ → ℕ → List ℕ
@@ -75,7 +76,8 @@ module _ {W : Type 0} (bb : ℕ) (F : W → List ℕ → ℕ → Bool → Bool �
   absorb_picked w t d zero k h = refl
   absorb_picked w t d (suc j) k h =
       let e : suc j + k ≡ j + suc k = omega arith in
-      rw (e, absorb_picked w t d j (suc k) (omega arith), block_picked d j k (omega arith))
+      let P : ℕ → Type 0 = λ n. absorb bb F bb w t (picked bb st d n) (suc j) ≡ absorb bb F st w t d (suc j) in
+      subst P (sym e) (absorb_step bb F st w t d j (absorb_picked w t d j (suc k) (omega arith)) (block_picked d j k (omega arith)) refl refl)
 
   module _ (block : 0 < bb) where
     row : 0 < st

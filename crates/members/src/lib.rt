@@ -1,3 +1,5 @@
+#![tactic(auto)]
+
 // What each member of the family is to its callers, once for all: it is in specs/ and proofs/.
 // The one running code is the test of a state's ranges, which the members share.
 mod bounds;

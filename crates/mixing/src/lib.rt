@@ -1,3 +1,5 @@
+#![tactic(auto)]
+
 // G of RFC 7693, the mixing function, on four words and two of the message.
 // Sums wrap on purpose: the RFC's are modulo 2^64.
 ghost use Rattle.std.specs.Prelude.{◌≡◌, ◌+◌, ◌%◌, ◌^◌, ◌<◌};

@@ -1,3 +1,5 @@
+#![tactic(auto)]
+
 // Document 01's numbers: what an answer's number says, the limit of a total, and when a piece lies inside its data.
 // The specifications of this crate name the same for contracts.
 ghost use Rattle.std.specs.Prelude.{◌≡◌};

@@ -1,3 +1,5 @@
+#![tactic(auto)]
+
 // The interpreter of a script's calls on BLAKE2b's parameters, states and digests.
 // Test code: safe by proof, with no promise of its own. docs/REPLAY.md has the format.
 mod records;

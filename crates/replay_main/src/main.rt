@@ -1,3 +1,5 @@
+#![tactic(auto)]
+
 // Runs a script of calls: it comes on standard input, and the answers go to standard output.
 // The work is that of crates replay, replay_batches and replay_blake2bp; here a line is put together from what the reads bring.
 use bytes::scan::find;

@@ -1,3 +1,5 @@
+#![tactic(auto)]
+
 // The text of a script: what a line is read as, and how an answer is written.
 // Test code: safe by proof, with no promise of its own, and nothing of BLAKE2. docs/REPLAY.md has the format.
 mod answer;

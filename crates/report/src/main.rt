@@ -1,3 +1,5 @@
+#![tactic(auto)]
+
 // Reports on standard input: five lines of its bytes, or the one line that says it can't be read.
 // The lines are crate report_text's; here the input is read to its end, and one write follows.
 use libc::{STDIN_FILENO, STDOUT_FILENO};

@@ -1,3 +1,5 @@
+#![tactic(auto)]
+
 // The two leaves between bytes and words, little-endian.
 // In their plainest form: nothing above goes by more than their contracts.
 ghost use Rattle.std.specs.Prelude.{◌≡◌, ◌+◌, ◌<◌, ◌≤◌, length, take, drop};

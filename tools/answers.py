@@ -1,0 +1,240 @@
+#!/usr/bin/env python3
+"""Turns a function's Proof.antt, which lists answers to `tie.spec`, into Invariants.antt and Answers.antt.
+usage: tools/answers.py CRATE..   at the top of the repository, where `rt check --generated DIR --old-names` works in each CRATE."""
+import json
+import os
+import re
+import subprocess
+import sys
+import tempfile
+
+WORD = r'[^\s(){}.;,@"«»\[\]|]+'
+
+
+def plain(name):
+    return name.replace("-", "_")
+
+
+def old_names(crate):
+    with tempfile.TemporaryDirectory() as d:
+        at = os.path.join(d, "names")
+        said = subprocess.run(["rt", "check", "--generated", at, "--old-names"], cwd="crates/" + crate, capture_output=True, text=True)
+        path = os.path.join(at, "names.json")
+        if not os.path.exists(path):
+            print(said.stdout[-500:], said.stderr[-500:])
+            return {}
+        with open(path) as f:
+            return json.load(f)
+
+
+def items(text):
+    """The head (comments and imports) and the declarations, each with the comment above it."""
+    parts = re.split(r"\n\n+", text.strip("\n"))
+    return parts[0], parts[1:]
+
+
+def declared(item):
+    for line in item.split("\n"):
+        if not line.startswith("--"):
+            m = re.match(r"((?:abbrev |pub |unfoldable )*)(" + WORD + r")((?: \{[^}]*\})*) : (.*)", line)
+            return m
+    return None
+
+
+def spec_arguments(item):
+    """What `tie.spec` is given, in order."""
+    at = item.find("tie.spec")
+    if at < 0:
+        return []
+    text, i, out = item, at + len("tie.spec"), []
+    while i < len(text):
+        if text[i].isspace():
+            i += 1
+        elif text[i] == "(":
+            deep, j = 0, i
+            while True:
+                deep += {"(": 1, ")": -1}.get(text[j], 0)
+                j += 1
+                if deep == 0:
+                    break
+            out.append(text[i:j])
+            i = j
+        elif text[i] == ")":
+            break
+        else:
+            m = re.compile(r"[^\s()]+").match(text, i)
+            out.append(m[0])
+            i = m.end()
+    return out
+
+
+class Function:
+    def __init__(self, crate, path, names):
+        self.crate, self.path = crate, path
+        self.folder = os.path.dirname(path)
+        self.at = os.path.relpath(self.folder, f"crates/{crate}/proofs").replace(os.sep, ".")
+        self.names = names
+        self.goals = {plain(old): new for old, new in names["needs"]}
+        self.places = dict(zip((p[0] for p in names["places"]), names["places_by_name"]))
+        self.places = {plain(k): v for k, v in self.places.items()}
+        self.steps = {}
+        for p in names["places"]:
+            old, new = p[2]
+            if old and plain(old) != "":
+                self.steps[plain(old)] = new
+        self.loops = [(plain(a), b, vs) for (a, b), vs in names["loops"]]
+        for a, b, _ in self.loops:
+            self.steps.setdefault(a, b)
+        self.said = []
+
+    def goal_of(self, old):
+        old = plain(old)
+        for it in (old, re.sub(r"^overflow_", "", old)):
+            if it in self.goals:
+                return self.goals[it]
+        self.said.append(f"{self.path}: no goal {old}")
+        return old
+
+    def turned(self, text):
+        """A body or a helper: places and steps by their new names."""
+
+        def place(m):
+            new = self.places.get(plain(m[1]))
+            if new is None:
+                self.said.append(f"{self.path}: no place {m[1]}")
+                return m[0]
+            return "goal." + new
+
+        text = re.sub(r"tie\.(" + WORD + r")", place, text)
+
+        def step(m):
+            old = plain(m[1])
+            if old in self.steps and self.steps[old] != m[1]:
+                return "." + self.steps[old]
+            return m[0]
+
+        return re.sub(r"(?<=[\w'\]₀₁₂])\.(" + WORD + r")", step, text)
+
+    def invariant(self, item, m):
+        """`invariant-loop a b c = ..` over the loop's variables becomes a function of the record l."""
+        kind, name = m[4].split()[0].split(".")[1].split("-", 1)
+        for k, (old, new, variables) in enumerate(self.loops):
+            if old == plain(name):
+                break
+        else:
+            self.said.append(f"{self.path}: no loop {name}")
+            return item
+        changed = self.names["changed"][k]
+        lines = item.split("\n")
+        first = next(i for i, l in enumerate(lines) if re.match(re.escape(m[2]) + r" .*=", l) or re.match(re.escape(m[2]) + r" ", l) and " : " not in l)
+        comment = [l for l in lines if l.startswith("--")]
+        unfolding = [l for l in lines if l.startswith("unfolding")]
+        text = "\n".join(lines[first:])
+        head, body = text.split("=", 1)
+        given = head.split()[1:]
+        wanted = [(v, "l.initial." + v if c else "l." + v) for v, c in zip(variables, changed)] + [(v, "l." + v) for v, c in zip(variables, changed) if c]
+        if len(given) != len(wanted):
+            self.said.append(f"{self.path}: {m[2]} takes {given}, and the loop has {wanted}")
+        table = {g: w[1] for g, w in zip(given, wanted)}
+        body = re.sub(r"(?<![\w.'])(" + "|".join(re.escape(g) for g in sorted(table, key=len, reverse=True)) + r")(?![\w'₀-₉-])", lambda q: table[q[1]], body) if table else body
+        made = f"{kind}-{new}"
+        return "\n".join(comment + [f"abbrev pub {made} : goal.{made}"] + unfolding + [f"{made} l ={body}"])
+
+    def turn(self):
+        with open(self.path) as f:
+            text = f.read()
+        head, parts = items(text)
+        uses = [l for l in head.split("\n") if not re.search(r"\.(Statement\.\{statement\}|Tie as tie)$", l)]
+        comments = [l for l in uses if l.startswith("--")]
+        uses = [l for l in uses if not l.startswith("--")]
+        answers, invariants, renamed, given = [], [], {}, []
+        for item in parts:
+            m = declared(item)
+            if m and re.match(r"tie\.(invariant|decreases)-", m[4]):
+                invariants.append(self.invariant(item, m))
+                renamed[m[2]] = None
+            elif m and re.match(r"tie\.Need-", m[4]):
+                new = self.goal_of(re.match(r"tie\.Need-(\S+)", m[4])[1])
+                renamed[m[2]] = new
+                answers.append((item, m, new))
+            elif "tie.spec" in item or "tie.close" in item:
+                given = spec_arguments(item)
+            else:
+                answers.append((item, m, None))
+        out = []
+        local = {k: v for k, v in renamed.items() if v and v != k}
+        for item, m, new in answers:
+            if new:
+                lines = item.split("\n")
+                for i, line in enumerate(lines):
+                    if line.startswith(m[2] + " :"):
+                        lines[i] = f"pub {new} : goal.{new}"
+                    elif line.startswith(m[2] + " "):
+                        lines[i] = new + line[len(m[2]) :]
+                item = "\n".join(lines)
+            item = re.sub(r"(tie\.Need-" + WORD + r") invariant-loop\w* decreases-loop\w*", r"\1", item)
+            for k, v in local.items():
+                item = re.sub(r"(?<![\w.'-])" + re.escape(k) + r"(?![\w'-])", v, item)
+            out.append(self.turned(item))
+        # what was written in place
+        at = 2 * len(self.loops)
+        for i, it in enumerate(given[at:]):
+            if it in ("(search rules)", "(λ c. search rules)", "(λ c κs. search rules)") or it in renamed:
+                if it in renamed and i < len(self.names["needs"]) and self.names["needs"][i][1] != renamed[it]:
+                    self.said.append(f"{self.path}: {it} also answers {self.names['needs'][i][1]}?")
+                continue
+            new = self.names["needs"][i][1] if i < len(self.names["needs"]) else "?"
+            said = self.turned(it)
+            mm = re.match(r"\(λ (\S+?)\. (.*)\)$", said, re.S)
+            out.append(f"pub {new} : goal.{new}\n{new} " + (f"{mm[1]} = {mm[2]}" if mm else f"= {said}"))
+        root = f"Rattle.{self.crate}.proofs.{self.at}"
+        made = []
+        if invariants:
+            made.append(("Invariants.antt", comments, uses, f"use {root}.Given as goal", invariants))
+        if out:
+            made.append(("Answers.antt", comments, uses, f"use {root}.Goals as goal", out))
+        os.remove(self.path)
+        for name, comments, uses, own, body in made:
+            kept = []
+            whole = "\n".join(body)
+            for u in uses:
+                mm = re.match(r"use (\S+?)\.\{(.*)\}$", u)
+                if mm:
+                    keep = [w for w in mm[2].split(", ") if used(w, whole)]
+                    if keep:
+                        kept.append(f"use {mm[1]}.{{{', '.join(keep)}}}")
+                else:
+                    kept.append(u)
+            with open(os.path.join(self.folder, name), "w") as f:
+                f.write("\n".join(comments + kept + [own]) + "\n\n" + "\n\n".join(body) + "\n")
+        print("\n".join(self.said))
+
+
+def used(word, text):
+    word = word.split(" as ")[-1]
+    if "◌" in word:
+        parts = [p for p in word.split("◌") if p]
+        return all(p in text for p in parts)
+    return re.search(r"(?<![\w'.-])" + re.escape(word) + r"(?![\w'-])", text) is not None
+
+
+def main():
+    for crate in sys.argv[1:]:
+        names = old_names(crate)
+        for folder, _, files in os.walk(f"crates/{crate}/proofs"):
+            if "Proof.antt" not in files:
+                continue
+            path = os.path.join(folder, "Proof.antt")
+            at = os.path.relpath(folder, f"crates/{crate}/proofs").replace(os.sep, ".")
+            key = f"Rattle-{crate}-proofs.{at}.Lts"
+            with open(path) as f:
+                if "tie.spec" not in f.read():
+                    print(f"{path}: no tie.spec: by hand")
+                    continue
+            if key not in names:
+                print(f"{path}: no names for {key}")
+                continue
+            Function(crate, path, names[key]).turn()
+
+
+main()

@@ -109,11 +109,13 @@ class Function:
 
         def step(m):
             old = plain(m[1])
-            if old in self.steps and self.steps[old] != m[1]:
+            # A name that Rattle made beside a variable's is not what `args.buffer` means.
+            beside = re.fullmatch(re.escape(old) + r"-\d+", self.steps.get(old, "")) and "known" not in old
+            if old in self.steps and self.steps[old] != m[1] and not beside:
                 return "." + self.steps[old]
             return m[0]
 
-        return re.sub(r"(?<=[\w'\]₀₁₂])\.(" + WORD + r")", step, text)
+        return re.sub(r"(?<=[\w'\]₀₁₂])(?<!\.args)(?<!\.result)(?<!\.new)(?<!\.old)\.(" + WORD + r")", step, text)
 
     def invariant(self, item, m):
         """`invariant-loop a b c = ..` over the loop's variables becomes a function of the record l."""
@@ -139,6 +141,10 @@ class Function:
         body = re.sub(r"(?<![\w.'])(" + "|".join(re.escape(g) for g in sorted(table, key=len, reverse=True)) + r")(?![\w'₀-₉-])", lambda q: table[q[1]], body) if table else body
         made = f"{kind}-{new}"
         return "\n".join(comment + [f"abbrev pub {made} : goal.{made}"] + unfolding + [f"{made} l ={body}"])
+
+    def local(self, text, table):
+        """What the file itself declared, where it cites it."""
+        return re.sub(r"(?<![\w.'-])" + WORD, lambda m: table.get(m[0], m[0]), text) if table else text
 
     def turn(self):
         with open(self.path) as f:
@@ -173,8 +179,12 @@ class Function:
                         lines[i] = new + line[len(m[2]) :]
                 item = "\n".join(lines)
             item = re.sub(r"(tie\.Need-" + WORD + r") invariant-loop\w* decreases-loop\w*", r"\1", item)
-            for k, v in local.items():
-                item = re.sub(r"(?<![\w.'-])" + re.escape(k) + r"(?![\w'-])", v, item)
+            if new:
+                lines = item.split("\n")
+                said = [i for i, l in enumerate(lines) if l.startswith((f"pub {new} :", new + " "))]
+                item = "\n".join(l if i in said[:1] else new + self.local(l[len(new) :], local) if i in said else self.local(l, local) for i, l in enumerate(lines))
+            else:
+                item = self.local(item, local)
             out.append(self.turned(item))
         # what was written in place
         at = 2 * len(self.loops)

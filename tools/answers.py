@@ -1,6 +1,7 @@
 #!/usr/bin/env python3
 """Turns a function's Proof.antt, which lists answers to `tie.spec`, into Invariants.antt and Answers.antt.
 usage: tools/answers.py CRATE..   at the top of the repository, where `rt check --generated DIR --old-names` works in each CRATE."""
+import glob
 import json
 import os
 import re
@@ -68,6 +69,25 @@ def spec_arguments(item):
     return out
 
 
+def source_words():
+    out = set()
+    for path in glob.glob("crates/*/src/*.rt"):
+        with open(path) as f:
+            out.update(re.findall(r"[a-z]\w*_\w*", f.read()))
+    return out
+
+
+def parameters(crate, at):
+    """The names of a function's parameters, in order, by its name alone."""
+    for folder, _, files in os.walk(f"crates/{crate}/src"):
+        for f in files:
+            with open(os.path.join(folder, f)) as it:
+                m = re.search(r"\bfn " + re.escape(at.split(".")[-1]) + r"(?:<[^>]*>)?\(([^)]*)\)", it.read())
+            if m:
+                return ["self" if "self" in p.split(":")[0] else p.split(":")[0].replace("mut ", "").strip() for p in m[1].split(",") if p.strip()]
+    return []
+
+
 class Function:
     def __init__(self, crate, path, names):
         self.crate, self.path = crate, path
@@ -85,7 +105,9 @@ class Function:
         self.loops = [(plain(a), b, vs) for (a, b), vs in names["loops"]]
         for a, b, _ in self.loops:
             self.steps.setdefault(a, b)
-        self.said = []
+        self.said, self.cited = [], set()
+        self.parameters = parameters(crate, self.at)
+        self.source = source_words()
 
     def goal_of(self, old):
         old = plain(old)
@@ -103,9 +125,19 @@ class Function:
             if new is None:
                 self.said.append(f"{self.path}: no place {m[1]}")
                 return m[0]
-            return "goal." + new
+            self.cited.add(new)
+            return new
 
         text = re.sub(r"tie\.(" + WORD + r")", place, text)
+
+        for old, new in self.names["args"]:
+            text = re.sub(re.escape(old.replace(" ", "")) + r"(?![\w'-])", lambda m: new.replace(" ", ""), text)
+
+        # What the source names keeps its spelling, and a parameter that Rattle had no name for has its own.
+        text = re.sub(r"((?:\.args|\.new|\.ranges)\.)(" + WORD + r")", lambda m: m[1] + self.parameter(plain(m[2])), text)
+
+        text = re.sub(r"\.(t\d+)(?![\w'-])", lambda m: "." + self.parameter(m[1]), text)
+        text = re.sub(r"\.(" + WORD + r")", lambda m: "." + plain(m[1]) if "-" in m[1] and plain(m[1]) in self.source else m[0], text)
 
         def step(m):
             old = plain(m[1])
@@ -115,7 +147,9 @@ class Function:
                 return "." + self.steps[old]
             return m[0]
 
-        return re.sub(r"(?<=[\w'\]₀₁₂])(?<!\.args)(?<!\.result)(?<!\.new)(?<!\.old)\.(" + WORD + r")", step, text)
+        text = re.sub(r"(?<=[\w'\]₀₁₂])(?<!\.args)(?<!\.result)(?<!\.new)(?<!\.old)\.(" + WORD + r")", step, text)
+        # The test of `if !b` speaks of b itself.
+        return re.sub(r"not-(true|false) \S+ (\S+\.if-not-\S+\.\1)(?![\w'-])", r"\2", text)
 
     def invariant(self, item, m):
         """`invariant-loop a b c = ..` over the loop's variables becomes a function of the record l."""
@@ -141,6 +175,12 @@ class Function:
         body = re.sub(r"(?<![\w.'])(" + "|".join(re.escape(g) for g in sorted(table, key=len, reverse=True)) + r")(?![\w'₀-₉-])", lambda q: table[q[1]], body) if table else body
         made = f"{kind}-{new}"
         return "\n".join(comment + [f"abbrev pub {made} : goal.{made}"] + unfolding + [f"{made} l ={body}"])
+
+    def parameter(self, name):
+        m = re.fullmatch(r"t(\d+)", name)
+        if m and name not in self.parameters and int(m[1]) <= len(self.parameters):
+            return self.parameters[int(m[1]) - 1]
+        return name
 
     def local(self, text, table):
         """What the file itself declared, where it cites it."""
@@ -176,9 +216,10 @@ class Function:
                     if line.startswith(m[2] + " :"):
                         lines[i] = f"pub {new} : goal.{new}"
                     elif line.startswith(m[2] + " "):
-                        lines[i] = new + line[len(m[2]) :]
+                        lines[i] = re.sub(r"^ c κs\b", " c", line[len(m[2]) :])
+                        lines[i] = new + lines[i]
                 item = "\n".join(lines)
-            item = re.sub(r"(tie\.Need-" + WORD + r") invariant-loop\w* decreases-loop\w*", r"\1", item)
+            item = re.sub(r"(tie\." + WORD + r")((?: (?:invariant|decreases)-loop\w*)+)", r"\1", item)
             if new:
                 lines = item.split("\n")
                 said = [i for i, l in enumerate(lines) if l.startswith((f"pub {new} :", new + " "))]
@@ -194,7 +235,7 @@ class Function:
                     self.said.append(f"{self.path}: {it} also answers {self.names['needs'][i][1]}?")
                 continue
             new = self.names["needs"][i][1] if i < len(self.names["needs"]) else "?"
-            said = self.turned(it)
+            said = self.turned(it).replace("(λ c κs.", "(λ c.")
             mm = re.match(r"\(λ (\S+?)\. (.*)\)$", said, re.S)
             out.append(f"pub {new} : goal.{new}\n{new} " + (f"{mm[1]} = {mm[2]}" if mm else f"= {said}"))
         root = f"Rattle.{self.crate}.proofs.{self.at}"
@@ -202,7 +243,8 @@ class Function:
         if invariants:
             made.append(("Invariants.antt", comments, uses, f"use {root}.Given as goal", invariants))
         if out:
-            made.append(("Answers.antt", comments, uses, f"use {root}.Goals as goal", out))
+            places = f"\nuse {root}.Goals.{{{', '.join(sorted(self.cited))}}}" if self.cited else ""
+            made.append(("Answers.antt", comments, uses, f"use {root}.Goals as goal" + places, out))
         os.remove(self.path)
         for name, comments, uses, own, body in made:
             kept = []

@@ -14,18 +14,18 @@ pub const SLOTS: usize = 16;
 // A batch has at most so many records.
 pub const MOST_RECORDS: usize = 16;
 
-#[derive(Drop)]
+#[derive(Clone, Copy)]
 pub struct Bank {
     pub(crate) slots: [Slot; SLOTS],
 }
 
-#[derive(Drop)]
+#[derive(Clone, Copy)]
 pub struct BankAnswer {
     pub number: u8,
     pub bank: Bank,
 }
 
-#[derive(Drop)]
+#[derive(Clone, Copy)]
 pub struct BatchAnswer {
     pub number: u8,
     // Of the first bad record.

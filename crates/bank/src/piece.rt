@@ -5,7 +5,7 @@ ghost use Rattle.bank.specs.Rules.{place_fault};
 
 use refusals::{ACCEPTED, CLOSED, PIECE};
 
-#[derive(Drop)]
+#[derive(Clone, Copy)]
 pub struct Piece {
     pub slot: usize,
     pub start: usize,

@@ -9,13 +9,13 @@ use crate::piece::{Piece, place_fault};
 use blake2b::{CountAnswer, Hash, HashAnswer, Params, State};
 use refusals::{ACCEPTED, CLOSED, OPEN, piece_ok};
 
-#[derive(Drop)]
+#[derive(Clone, Copy)]
 pub struct Slot {
     pub(crate) is_open: bool,
     pub(crate) state: State,
 }
 
-#[derive(Drop)]
+#[derive(Clone, Copy)]
 pub struct SlotAnswer {
     pub number: u8,
     pub slot: Slot,

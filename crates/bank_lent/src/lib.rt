@@ -10,7 +10,7 @@ ghost use Rattle.bank_lent.specs.Copy.{blank};
 use bank::{Bank, BatchAnswer, MOST_RECORDS, Piece};
 
 // The records, copied. The functions up to `batch` do the work, so that the walk by hand below them only calls.
-#[derive(Drop)]
+#[derive(Clone, Copy)]
 struct Copied {
     list: [Piece; MOST_RECORDS],
 }

@@ -20,7 +20,7 @@ use refusals::{
     ACCEPTED, DIGEST_LENGTH, INNER_LENGTH, KEY_LENGTH, PERSONAL_LENGTH, RECORD, SALT_LENGTH,
 };
 
-#[derive(Drop)]
+#[derive(Clone, Copy)]
 pub struct Params {
     pub(crate) hash_length: u8,
     pub(crate) key_length: u8,
@@ -37,7 +37,7 @@ pub struct Params {
 }
 
 // What a setter answers: the changed parameters, or the old ones with a refusal.
-#[derive(Drop)]
+#[derive(Clone, Copy)]
 pub struct ParamsAnswer {
     pub number: u8,
     pub params: Params,

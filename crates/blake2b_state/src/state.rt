@@ -13,7 +13,7 @@ use portable::{BLOCKBYTES, Compressed, compress1_loop, parameter_words, zero_blo
 use refusals::{ACCEPTED, DIGEST_LENGTH, LIMIT, RECORD, TOTAL};
 use words::write_words;
 
-#[derive(Drop)]
+#[derive(Clone, Copy)]
 pub struct State {
     pub(crate) words: [u64; 8],
     // The bytes that were compressed.
@@ -26,13 +26,13 @@ pub struct State {
     pub(crate) is_keyed: bool,
 }
 
-#[derive(Drop)]
+#[derive(Clone, Copy)]
 pub struct StateAnswer {
     pub number: u8,
     pub state: State,
 }
 
-#[derive(Drop)]
+#[derive(Clone, Copy)]
 pub struct CountAnswer {
     pub number: u8,
     pub count: u64,

@@ -12,7 +12,7 @@ use guts::store;
 use hash::is_digest_length;
 use refusals::{ACCEPTED, DIGEST_LENGTH, KEY_LENGTH, RECORD};
 
-#[derive(Drop)]
+#[derive(Clone, Copy)]
 pub struct Params {
     pub(crate) hash_length: u8,
     pub(crate) key_length: u8,
@@ -20,7 +20,7 @@ pub struct Params {
 }
 
 // What a setter answers: the changed parameters, or the old ones with a refusal.
-#[derive(Drop)]
+#[derive(Clone, Copy)]
 pub struct ParamsAnswer {
     pub number: u8,
     pub params: Params,

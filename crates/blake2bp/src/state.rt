@@ -20,7 +20,7 @@ use members::in_bounds;
 use portable::padded_block;
 use refusals::{ACCEPTED, LIMIT, RECORD, TOTAL};
 
-#[derive(Drop)]
+#[derive(Clone, Copy)]
 pub struct State {
     pub(crate) leaves: [Leaf; DEGREE],
     pub(crate) root_words: [u64; 8],
@@ -32,25 +32,25 @@ pub struct State {
     pub(crate) is_keyed: bool,
 }
 
-#[derive(Drop)]
+#[derive(Clone, Copy)]
 pub struct StateAnswer {
     pub number: u8,
     pub state: State,
 }
 
-#[derive(Drop)]
+#[derive(Clone, Copy)]
 pub struct CountAnswer {
     pub number: u8,
     pub count: MessageCount,
 }
 
-#[derive(Drop)]
+#[derive(Clone, Copy)]
 pub struct LeafCountAnswer {
     pub number: u8,
     pub count: LeafCount,
 }
 
-#[derive(Drop)]
+#[derive(Clone, Copy)]
 pub struct BufferedAnswer {
     pub number: u8,
     pub buffered: usize,

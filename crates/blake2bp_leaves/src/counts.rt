@@ -2,5 +2,5 @@
 // BLAKE2bp's message count is the other kind.
 
 // Key block bytes are counted with it.
-#[derive(Drop)]
+#[derive(Clone, Copy)]
 pub struct LeafCount(pub u64);

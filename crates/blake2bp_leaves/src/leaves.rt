@@ -24,7 +24,7 @@ pub const BLOCKBYTES: usize = 128;
 
 const STATEBYTES: usize = 64;
 
-#[derive(Drop)]
+#[derive(Clone, Copy)]
 pub struct Leaf {
     pub words: [u64; 8],
 }

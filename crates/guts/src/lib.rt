@@ -11,7 +11,7 @@ ghost use Rattle.guts.specs.Guts.{finalizes, is_last_node, final_facts};
 
 pub use storing::{clear, store};
 
-#[derive(Drop)]
+#[derive(Clone, Copy)]
 pub enum Finalize {
     Yes,
     No,
@@ -28,7 +28,7 @@ impl Finalize {
     }
 }
 
-#[derive(Drop)]
+#[derive(Clone, Copy)]
 pub enum LastNode {
     Yes,
     No,
@@ -46,7 +46,7 @@ impl LastNode {
 }
 
 // What lies between two blocks of a run.
-#[derive(Drop)]
+#[derive(Clone, Copy)]
 pub enum Stride {
     // Nothing: a block follows the other.
     Serial,
@@ -89,7 +89,7 @@ pub fn final_block<'a>(input: &'a [u8], offset: usize, buffer: &'a [u8]) -> &'a 
 }
 
 // Of the block at an offset: how many of its bytes are the input's, and whether the input ends before the next one.
-#[derive(Drop)]
+#[derive(Clone, Copy)]
 pub struct FinalFacts {
     pub len: usize,
     pub may_finalize: bool,

@@ -18,26 +18,26 @@ use refusals::{ACCEPTED, DIGEST_LENGTH, RECORD};
 // The most bytes that a digest has.
 pub const OUTBYTES: usize = 64;
 
-#[derive(Drop)]
+#[derive(Clone, Copy)]
 pub struct Hash {
     // Zeros behind the length.
     pub(crate) bytes: [u8; 64],
     pub(crate) len: u8,
 }
 
-#[derive(Drop)]
+#[derive(Clone, Copy)]
 pub struct HashAnswer {
     pub number: u8,
     pub hash: Hash,
 }
 
-#[derive(Drop)]
+#[derive(Clone, Copy)]
 pub struct LengthAnswer {
     pub number: u8,
     pub length: usize,
 }
 
-#[derive(Drop)]
+#[derive(Clone, Copy)]
 pub struct EqualAnswer {
     pub number: u8,
     pub equal: bool,

@@ -12,7 +12,7 @@ use refusals::{ACCEPTED, BATCH};
 pub const MOST_JOBS: usize = 16;
 
 // The jobs that were run, or those handed in with a refusal and the index of the first bad one.
-#[derive(Drop)]
+#[derive(Clone, Copy)]
 pub struct JobsAnswer {
     pub number: u8,
     pub index: usize,
@@ -20,7 +20,7 @@ pub struct JobsAnswer {
 }
 
 // The refusal and the index of the first bad job, or an acceptance and 0.
-#[derive(Drop)]
+#[derive(Clone, Copy)]
 struct FirstBad {
     number: u8,
     index: usize,

@@ -9,14 +9,14 @@ use hash::HashAnswer;
 use many_work::{Work, begin, has_room};
 use refusals::{ACCEPTED, PIECE, RECORD, TOTAL, piece_ok};
 
-#[derive(Drop)]
+#[derive(Clone, Copy)]
 pub struct HashManyJob {
     pub(crate) work: Work,
     pub(crate) start: usize,
     pub(crate) length: usize,
 }
 
-#[derive(Drop)]
+#[derive(Clone, Copy)]
 pub struct JobAnswer {
     pub number: u8,
     pub job: HashManyJob,

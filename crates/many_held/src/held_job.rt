@@ -9,7 +9,7 @@ use blake2b::Params;
 use hash::HashAnswer;
 use many_work::Work;
 
-#[derive(Drop)]
+#[derive(Clone, Copy)]
 pub struct HashManyJob<'a> {
     pub(crate) words: [u64; 8],
     // The bytes of the key block, where there is one.
@@ -20,7 +20,7 @@ pub struct HashManyJob<'a> {
     pub(crate) finished: bool,
 }
 
-#[derive(Drop)]
+#[derive(Clone, Copy)]
 pub struct JobAnswer<'a> {
     pub number: u8,
     pub job: HashManyJob<'a>,

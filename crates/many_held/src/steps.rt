@@ -8,7 +8,7 @@ use hash::HashAnswer;
 use many_work::{Work, begin, has_room};
 use refusals::{ACCEPTED, RECORD, TOTAL};
 
-#[derive(Drop)]
+#[derive(Clone, Copy)]
 pub(crate) struct WorkAnswer {
     pub(crate) number: u8,
     pub(crate) work: Work,

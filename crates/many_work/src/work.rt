@@ -8,7 +8,7 @@ use hash::{Hash, HashAnswer};
 use refusals::{LIMIT, RECORD, UNFINISHED};
 use words::write_words;
 
-#[derive(Drop)]
+#[derive(Clone, Copy)]
 pub struct Work {
     pub words: [u64; 8],
     // The bytes of the key block, where there is one.

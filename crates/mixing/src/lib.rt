@@ -24,7 +24,7 @@ fn add3(a: u64, b: u64, x: u64) -> u64
     wrapping_add_u64(wrapping_add_u64(a, b), x)
 }
 
-#[derive(Drop)]
+#[derive(Clone, Copy)]
 pub struct Quad {
     pub a: u64,
     pub b: u64,

@@ -12,7 +12,7 @@ use compression::compress_block;
 use guts::{Finalize, LastNode, Stride, final_block, final_facts, pad_final_block};
 
 // What a run of the loop hands back.
-#[derive(Drop)]
+#[derive(Clone, Copy)]
 pub struct Compressed {
     pub words: [u64; 8],
 }

@@ -4,7 +4,7 @@ use crate::shown::answer_of_digest;
 use blake2b::{Hash, HashAnswer, Params, ParamsAnswer, State, StateAnswer};
 use replay_text::{Answer, PLAIN, answer_of};
 
-#[derive(Drop)]
+#[derive(Clone, Copy)]
 pub struct Session {
     pub params: Params,
     pub(crate) state: State,

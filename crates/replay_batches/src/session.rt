@@ -6,7 +6,7 @@ use bank::{Bank, BankAnswer, BatchAnswer, MOST_RECORDS, Piece};
 use many::{HashManyJob, JobAnswer, JobsAnswer, MOST_JOBS};
 use replay_text::{Answer, INDEX, PLAIN, answer_of};
 
-#[derive(Drop)]
+#[derive(Clone, Copy)]
 pub struct Session {
     pub(crate) jobs: [HashManyJob; MOST_JOBS],
     pub(crate) bank: Bank,

@@ -3,7 +3,7 @@
 use blake2bp::{Params, ParamsAnswer, State, StateAnswer};
 use replay_text::{Answer, PLAIN, answer_of};
 
-#[derive(Drop)]
+#[derive(Clone, Copy)]
 pub struct Session {
     pub(crate) params: Params,
     pub(crate) state: State,

@@ -9,7 +9,7 @@ use replay_text::{
 };
 
 // What was read and is not taken yet, how many bytes of a line are held, whether that is all of it, and whether there may be more.
-#[derive(Drop)]
+#[derive(Clone, Copy)]
 struct Input {
     at: usize,
     end: usize,
@@ -19,7 +19,7 @@ struct Input {
 }
 
 // The sessions that the calls are on, and where the input is.
-#[derive(Drop)]
+#[derive(Clone, Copy)]
 struct Place {
     input: Input,
     blake2b: replay::Session,
@@ -34,7 +34,7 @@ const BATCHES: u8 = 1;
 
 const BLAKE2BP: u8 = 2;
 
-#[derive(Drop)]
+#[derive(Clone, Copy)]
 struct Named {
     whose: u8,
     call: Call,

@@ -31,7 +31,7 @@ pub const EQUAL: u8 = b'9';
 
 const BYTES: u8 = b'A';
 
-#[derive(Drop)]
+#[derive(Clone, Copy)]
 pub struct Answer {
     kind: u8,
     number: u8,

@@ -13,7 +13,7 @@ pub const LONGEST: usize = 8192;
 // The row of a line that is no call.
 pub const NO_ROW: usize = usize::MAX;
 
-#[derive(Drop)]
+#[derive(Clone, Copy)]
 pub struct Call {
     // The number of rows in front of the call's.
     pub row: usize,
@@ -33,7 +33,7 @@ pub struct Call {
 }
 
 // A row's number, and where in the table it starts.
-#[derive(Drop)]
+#[derive(Clone, Copy)]
 enum Row {
     At(usize, usize),
     Nowhere,

@@ -4,7 +4,7 @@ use crate::output::{part, push};
 use crate::text::{Number, after, before, low8, read_number};
 
 // Where in the space the message lies.
-#[derive(Drop)]
+#[derive(Clone, Copy)]
 pub enum Message {
     From(usize, usize),
     Malformed,

@@ -4,7 +4,7 @@ use crate::output::part;
 use bytes::scan::find;
 
 // A number that was read.
-#[derive(Drop)]
+#[derive(Clone, Copy)]
 pub enum Number {
     Value(u64),
     Malformed,

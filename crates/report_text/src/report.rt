@@ -13,7 +13,7 @@ use hash::{Hash, LengthAnswer, write};
 use io::count;
 use refusals::{ACCEPTED, RECORD};
 
-#[derive(Drop)]
+#[derive(Clone, Copy)]
 pub struct Report {
     pub(crate) state: State,
     // No read failed, and the state refused no piece.
@@ -21,7 +21,7 @@ pub struct Report {
 }
 
 // A report after a read, and whether there may be more to read.
-#[derive(Drop)]
+#[derive(Clone, Copy)]
 pub struct Reading {
     pub report: Report,
     pub more: bool,

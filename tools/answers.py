@@ -97,6 +97,8 @@ class Function:
         self.goals = {plain(old): new for old, new in names["needs"]}
         self.places = dict(zip((p[0] for p in names["places"]), names["places_by_name"]))
         self.places = {plain(k): v for k, v in self.places.items()}
+        # the place of each goal
+        self.asked = {new: a[1] for (old, new), a in zip(names["needs"], names["asked_at"])}
         self.steps = {}
         for p in names["places"]:
             old, new = p[2]
@@ -141,6 +143,9 @@ class Function:
 
         def step(m):
             old = plain(m[1])
+            # The respelling gave some lemmas another name, and here it is a call's.
+            if old.endswith("_lem") and old[:-4] in self.steps:
+                return "." + self.steps[old[:-4]]
             # A name that Rattle made beside a variable's is not what `args.buffer` means.
             beside = re.fullmatch(re.escape(old) + r"-\d+", self.steps.get(old, "")) and "known" not in old
             if old in self.steps and self.steps[old] != m[1] and not beside:
@@ -186,6 +191,24 @@ class Function:
         """What the file itself declared, where it cites it."""
         return re.sub(r"(?<![\w.'-])" + WORD, lambda m: table.get(m[0], m[0]), text) if table else text
 
+    def helped(self, item, goal, m, helpers):
+        """A helper takes a place: `goal.at.GOAL c` has those that a goal is past."""
+        at = goal or helpers.get(m[2] if m else None)
+        if not at:
+            return item
+        here = self.asked.get(goal, at)
+        name = goal or m[2]
+        bound = re.search(r"(?m)^" + re.escape(name) + r" (\w+)", item)
+        if not bound:
+            return item
+        c = bound[1]
+        for helper, place in helpers.items():
+            if helper == name:
+                continue
+            given = c if place == here else f"(goal.at.{at} {c}).{place}"
+            item = re.sub(r"(?<![\w.'-])" + re.escape(helper) + r" [\w']+(?:\.before)*(?![\w.'-])", lambda q: f"{helper} {given}", item)
+        return item
+
     def turn(self):
         with open(self.path) as f:
             text = f.read()
@@ -209,6 +232,11 @@ class Function:
                 answers.append((item, m, None))
         out = []
         local = {k: v for k, v in renamed.items() if v and v != k}
+        helpers = {}
+        for item, m, new in answers:
+            it = m and not new and re.search(r"\(\w+ : tie\.(" + WORD + r")", item)
+            if it and plain(it[1]) in self.places:
+                helpers[m[2]] = self.places[plain(it[1])]
         for item, m, new in answers:
             if new:
                 lines = item.split("\n")
@@ -226,7 +254,9 @@ class Function:
                 item = "\n".join(l if i in said[:1] else new + self.local(l[len(new) :], local) if i in said else self.local(l, local) for i, l in enumerate(lines))
             else:
                 item = self.local(item, local)
-            out.append(self.turned(item))
+            item = self.turned(item)
+            item = self.helped(item, new, m, helpers)
+            out.append(item)
         # what was written in place
         at = 2 * len(self.loops)
         for i, it in enumerate(given[at:]):

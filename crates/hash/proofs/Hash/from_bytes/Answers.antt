@@ -5,14 +5,11 @@ use borrow.Author.Rules.{rules}
 use lib.ListN.{length}
 use Rattle.hash.specs.Sizes.{longest}
 use Rattle.hash.proofs.Digests.{whole_hash}
-use Rattle.hash.proofs.Hash.from_bytes.Statement.{statement}
-use Rattle.hash.proofs.Hash.from_bytes.Tie as tie
+use Rattle.hash.proofs.Hash.from_bytes.Goals as goal
+use Rattle.hash.proofs.Hash.from_bytes.Goals.{Start}
 
-sized : (c : tie.Start) → length c.args.bytes ≡ longest
+sized : (c : Start) → length c.args.bytes ≡ longest
 sized c = search rules
 
-returns : tie.Need-returns
+pub returns : goal.returns
 returns c = whole_hash c.args.bytes (sized c)
-
-pub from_bytes_spec : {M : Type 1} → statement M
-from_bytes_spec = tie.close (tie.spec returns)

@@ -1,0 +1,10 @@
+-- `hash::is_digest_length` meets its contract.
+-- Assumes nothing.
+use borrow.Author.Tests.{le-leb, lt-leb}
+use Rattle.hash.proofs.is_digest_length.Goals as goal
+
+pub returns-then-n-ge1 : goal.returns-then-n-ge1
+returns-then-n-ge1 c = rw (le-leb 1 c.before.args.n c.if-n-ge1.true)
+
+pub returns-else-n-ge1 : goal.returns-else-n-ge1
+returns-else-n-ge1 c = rw (lt-leb 1 c.before.args.n c.if-n-ge1.false)

@@ -153,8 +153,9 @@ class Function:
             return m[0]
 
         text = re.sub(r"(?<=[\w'\]₀₁₂])(?<!\.args)(?<!\.result)(?<!\.new)(?<!\.old)\.(" + WORD + r")", step, text)
-        # The test of `if !b` speaks of b itself.
-        return re.sub(r"not-(true|false) \S+ (\S+\.if-not-\S+\.\1)(?![\w'-])", r"\2", text)
+        # The test of `if !b` speaks of b itself; what wants the test turned has it by `ap not`.
+        text = re.sub(r"not-(true|false) \S+ (\S+\.if-not-\S+\.\1)(?![\w'-])", r"\2\0", text)
+        return re.sub(r"(?<![\w.'-])((?:[\w']+\.)+if-not-[^\s().\0]+\.(?:true|false))(?![\w'\0-])", r"(ap not \1)", text).replace("\0", "")
 
     def invariant(self, item, m):
         """`invariant-loop a b c = ..` over the loop's variables becomes a function of the record l."""
@@ -190,6 +191,16 @@ class Function:
     def local(self, text, table):
         """What the file itself declared, where it cites it."""
         return re.sub(r"(?<![\w.'-])" + WORD, lambda m: table.get(m[0], m[0]), text) if table else text
+
+    def flat(self, item, name):
+        """Every fact is named from where one stands: no `.before`, and no names for the places on the way."""
+        bound = re.search(r"(?m)^" + re.escape(name) + r" (\w+)", item)
+        if not bound:
+            return item
+        c = bound[1]
+        while m := re.search(r"let ([\w']+) = " + c + r"(?:\.before)+ in\s*", item):
+            item = item[: m.start()] + re.sub(r"(?<![\w.'-])" + m[1] + r"(?![\w'-])", c, item[m.end() :])
+        return re.sub(r"(?<![\w.'-])(\w+)(?:\.before)+(?![\w'-])", r"\1", item)
 
     def helped(self, item, goal, m, helpers):
         """A helper takes a place: `goal.at.GOAL c` has those that a goal is past."""
@@ -230,13 +241,18 @@ class Function:
                 given = spec_arguments(item)
             else:
                 answers.append((item, m, None))
+        # From a place to one above it: fields are named from where one stands, so it goes.
+        ups = [m[2] for item, m, new in answers if m and not new and re.fullmatch(r"tie\.\S+(?: \S+-loop\w*)* → tie\.\S+(?: \S+-loop\w*)*", m[4])]
+        answers = [(item, m, new) for item, m, new in answers if not (m and m[2] in ups)]
+        for up in ups:
+            answers = [(re.sub(r"\(" + re.escape(up) + r" ([\w'.]+)\)|(?<![\w.'-])" + re.escape(up) + r" ([\w'.]+)", lambda q: q[1] or q[2], item), m, new) for item, m, new in answers]
         out = []
         local = {k: v for k, v in renamed.items() if v and v != k}
         helpers = {}
         for item, m, new in answers:
-            it = m and not new and re.search(r"\(\w+ : tie\.(" + WORD + r")", item)
-            if it and plain(it[1]) in self.places:
-                helpers[m[2]] = self.places[plain(it[1])]
+            it = m and not new and re.search(r"\(\w+ : tie\.(" + WORD + r")|^(?:abbrev )?\S+ : tie\.(" + WORD + r") →", item)
+            if it and plain(it[1] or it[2]) in self.places:
+                helpers[m[2]] = self.places[plain(it[1] or it[2])]
         for item, m, new in answers:
             if new:
                 lines = item.split("\n")
@@ -255,7 +271,7 @@ class Function:
             else:
                 item = self.local(item, local)
             item = self.turned(item)
-            item = self.helped(item, new, m, helpers)
+            item = self.helped(self.flat(item, new or (m[2] if m else "")), new, m, helpers)
             out.append(item)
         # what was written in place
         at = 2 * len(self.loops)
@@ -279,6 +295,9 @@ class Function:
         for name, comments, uses, own, body in made:
             kept = []
             whole = "\n".join(body)
+            if "(ap not " in whole:
+                uses = brought(uses, "mathlib.Core.Path", "ap")
+                uses = brought(uses, "mathlib.Core.Bool", "not")
             for u in uses:
                 mm = re.match(r"use (\S+?)\.\{(.*)\}$", u)
                 if mm:
@@ -290,6 +309,16 @@ class Function:
             with open(os.path.join(self.folder, name), "w") as f:
                 f.write("\n".join(comments + kept + [own]) + "\n\n" + "\n\n".join(body) + "\n")
         print("\n".join(self.said))
+
+
+def brought(uses, module, word):
+    """The imports with one more."""
+    for i, u in enumerate(uses):
+        if u.startswith(f"use {module}.{{"):
+            if word not in re.split(r"[{}, ]+", u):
+                uses[i] = u.replace("{", "{" + word + ", ", 1)
+            return uses
+    return [f"use {module}.{{{word}}}"] + uses
 
 
 def used(word, text):

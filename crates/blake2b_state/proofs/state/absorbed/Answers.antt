@@ -13,10 +13,8 @@ use Rattle.laws_blocks.proofs.Rows.{spare_is}
 use mathlib.Core.Bool.{false}
 use mathlib.Core.List.{List}
 use native.Mathlib.Nat.{not-suc-le-zero}
-use borrow.Author.Rules.{rules}
 use Rattle.blake2b_state.specs.Sizes.{blockbytes}
-use Rattle.blake2b_state.proofs.state.absorbed.Statement.{statement}
-use Rattle.blake2b_state.proofs.state.absorbed.Tie as tie
+use Rattle.blake2b_state.proofs.state.absorbed.Goals as goal
 
 whole : (w : List ℕ) (t : ℕ) (d : List ℕ) (k : ℕ) → 0 < k → length d ≡ blockbytes * k → through_blocks BLAKE2b blockbytes w t false false d ≡ absorb blockbytes (on_bytes BLAKE2b) blockbytes w t d k
 unfolding block_at
@@ -25,10 +23,7 @@ whole w t d (suc k) h e =
     through_whole blockbytes (on_bytes BLAKE2b) blockbytes w t d k (spare_is blockbytes 0 (omega arith) (length d) k (omega arith) (omega arith))
     (length-take-le blockbytes (drop (blockbytes * k) d) (rw length-drop (omega arith)))
 
-returns : tie.Need-returns
+pub returns : goal.returns
 returns c =
-    let a = c.before.before.args in
-    c.compress1-loop.ensures ∙ whole a.words a.count a.input.now a.blocks c.before.before.requires.0 c.before.before.requires.1
-
-pub absorbed_spec : {M : Type 1} → statement M
-absorbed_spec = tie.close (tie.spec (search rules) returns)
+    let a = c.args in
+    c.compress1_loop.ensures ∙ whole a.words a.count a.input.now a.blocks c.requires.0 c.requires.1

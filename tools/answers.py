@@ -111,11 +111,13 @@ class Function:
         self.parameters = parameters(crate, self.at)
         self.source = source_words()
 
-    def goal_of(self, old):
+    def goal_of(self, old, at):
         old = plain(old)
         for it in (old, re.sub(r"^overflow_", "", old)):
             if it in self.goals:
                 return self.goals[it]
+        if 0 <= at < len(self.names["needs"]):
+            return self.names["needs"][at][1]
         self.said.append(f"{self.path}: no goal {old}")
         return old
 
@@ -227,18 +229,19 @@ class Function:
         uses = [l for l in head.split("\n") if not re.search(r"\.(Statement\.\{statement\}|Tie as tie)$", l)]
         comments = [l for l in uses if l.startswith("--")]
         uses = [l for l in uses if not l.startswith("--")]
-        answers, invariants, renamed, given = [], [], {}, []
+        answers, invariants, renamed = [], [], {}
+        given = next((spec_arguments(it) for it in parts if "tie.spec" in it), [])
         for item in parts:
             m = declared(item)
             if m and re.match(r"tie\.(invariant|decreases)-", m[4]):
                 invariants.append(self.invariant(item, m))
                 renamed[m[2]] = None
             elif m and re.match(r"tie\.Need-", m[4]):
-                new = self.goal_of(re.match(r"tie\.Need-(\S+)", m[4])[1])
+                new = self.goal_of(re.match(r"tie\.Need-(\S+)", m[4])[1], given.index(m[2]) - 2 * len(self.loops) if m[2] in given else -1)
                 renamed[m[2]] = new
                 answers.append((item, m, new))
             elif "tie.spec" in item or "tie.close" in item:
-                given = spec_arguments(item)
+                pass
             else:
                 answers.append((item, m, None))
         # From a place to one above it: fields are named from where one stands, so it goes.

@@ -1,6 +1,6 @@
 pub mod AnyCuts
 pub mod Cleaned
-pub mod MessageCount
+pub mod MessageCounts
 pub mod OneShot
 pub mod Fresh
 pub mod Plain

@@ -1,0 +1,25 @@
+-- `blake2bp::state::State::compress_half` meets its contract.
+-- Assumes nothing.
+use mathlib.Core.Path.{◌≡◌, refl}
+use native.Mathlib.Omega.{arith}
+use lib.ListN.{length}
+use Rattle.members.proofs.Moves.{half_gone}
+use Rattle.blake2bp.specs.Sizes.{roombytes}
+use Rattle.blake2bp.specs.State.{keeper}
+use Rattle.blake2bp.proofs.States.{keeper_laws}
+use borrow.Author.Rules.{rules}
+use Rattle.blake2bp.proofs.state.State.compress_half.Goals as goal
+use Rattle.blake2bp.proofs.state.State.compress_half.Goals.{Start}
+
+sized : (c : Start) → length c.args.self.buf ≡ roombytes
+sized c = search rules
+
+pub slice_bounds_compress_to_leaves_end : goal.slice_bounds_compress_to_leaves_end
+slice_bounds_compress_to_leaves_end c = let l = sized (goal.at.slice_bounds_compress_to_leaves_end c).Start in omega arith
+
+pub slice_bounds_store_end : goal.slice_bounds_store_end
+slice_bounds_store_end c = let l = sized (goal.at.slice_bounds_store_end c).Start in omega arith
+
+pub returns : goal.returns
+returns c =
+    half_gone keeper keeper_laws c.args.self (sized (goal.at.returns c).Start) c.requires.0 refl c.compress_to_leaves-leaves.ensures c.zero_buffer-front.ensures c.store.ensures

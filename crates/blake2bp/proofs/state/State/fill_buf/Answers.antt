@@ -1,0 +1,22 @@
+-- `blake2bp::state::State::fill_buf` meets its contract.
+-- Assumes nothing.
+use mathlib.Core.Path.{◌≡◌}
+use native.Mathlib.Omega.{arith}
+use lib.ListN.{length}
+use Rattle.members.proofs.Moves.{filled}
+use Rattle.blake2bp.specs.Sizes.{roombytes}
+use Rattle.blake2bp.specs.State.{keeper}
+use Rattle.blake2bp.proofs.States.{keeper_laws}
+use borrow.Author.Rules.{rules}
+use Rattle.blake2bp.proofs.state.State.fill_buf.Goals as goal
+use Rattle.blake2bp.proofs.state.State.fill_buf.Goals.{Start}
+
+sized : (c : Start) → length c.args.self.buf ≡ roombytes
+sized c = search rules
+
+pub store-requires : goal.store-requires
+store-requires c = let l = sized (goal.at.store-requires c).Start in omega arith
+
+pub returns : goal.returns
+returns c =
+    filled keeper keeper_laws c.args.self (record { sized = sized (goal.at.returns c).Start; held = omega arith }) c.args.input.now c.store.ensures

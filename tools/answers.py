@@ -97,6 +97,7 @@ class Function:
         self.goals = {plain(old): new for old, new in names["needs"]}
         self.places = dict(zip((p[0] for p in names["places"]), names["places_by_name"]))
         self.places = {plain(k): v for k, v in self.places.items()}
+        self.turned_tests = {p[2][1] for p in names["places"] if p[4] and p[2][1].startswith("if-not-")}
         # the place of each goal
         self.asked = {new: a[1] for (old, new), a in zip(names["needs"], names["asked_at"])}
         self.steps = {}
@@ -155,9 +156,12 @@ class Function:
             return m[0]
 
         text = re.sub(r"(?<=[\w'\]₀₁₂])(?<!\.args)(?<!\.result)(?<!\.new)(?<!\.old)\.(" + WORD + r")", step, text)
-        # The test of `if !b` speaks of b itself; what wants the test turned has it by `ap not`.
-        text = re.sub(r"not-(true|false) \S+ (\S+\.if-not-\S+\.\1)(?![\w'-])", r"\2\0", text)
-        return re.sub(r"(?<![\w.'-])((?:[\w']+\.)+if-not-[^\s().\0]+\.(?:true|false))(?![\w'\0-])", r"(ap not \1)", text).replace("\0", "")
+        # The test of `if !f()` speaks of f's result itself; what wants the test turned has it by `ap not`.
+        for it in sorted(self.turned_tests, key=len, reverse=True):
+            at = r"(\S+\." + re.escape(it) + r"\.\1)(?![\w'-])"
+            text = re.sub(r"not-(true|false) \S+ " + at, lambda q: q[2].replace(it, "\0" + it), text)
+            text = re.sub(r"(?<![\w.'-])((?:[\w']+\.)+" + re.escape(it) + r"\.(?:true|false))(?![\w'-])", r"(ap not \1)", text)
+        return text.replace("\0", "").replace(".well-formed", ".well_formed")
 
     def invariant(self, item, m):
         """`invariant-loop a b c = ..` over the loop's variables becomes a function of the record l."""

@@ -19,4 +19,4 @@ few c = search rules
 pub returns : goal.returns
 returns c =
     let m = c.args.input.now in
-    ap (λ (a : HashAnswer). a.hash-done) (c.hash-done.ensures ∙ ap (λ (p : Params). hashed p m) c.new-params.ensures ∙ hashed_defaults m (few (goal.at.returns c).Start))
+    ap (λ (a : HashAnswer). a.hash) (c.hash-done.ensures ∙ ap (λ (p : Params). hashed p m) c.new-params.ensures ∙ hashed_defaults m (few (goal.at.returns c).Start))

@@ -13,8 +13,8 @@ use Rattle.blake2bp.proofs.params.Params.with_params.Goals.{Start}
 whole : (c : Start) → length c.args.self.key ≡ keybytes
 whole c = search rules
 
-pub slice_bounds_padded_block_end : goal.slice_bounds_padded_block_end
-slice_bounds_padded_block_end c = let l = whole (goal.at.slice_bounds_padded_block_end c).Start in omega arith
+pub slice_bounds-padded_block-end : goal.slice_bounds-padded_block-end
+slice_bounds-padded_block-end c = let l = whole (goal.at.slice_bounds-padded_block-end c).Start in omega arith
 
 pub returns-then-self-gt0 : goal.returns-then-self-gt0
 returns-then-self-gt0 c =

@@ -14,11 +14,11 @@ use Rattle.blake2bp.proofs.state.State.compress_half.Goals.{Start}
 sized : (c : Start) → length c.args.self.buf ≡ roombytes
 sized c = search rules
 
-pub slice_bounds_compress_to_leaves_end : goal.slice_bounds_compress_to_leaves_end
-slice_bounds_compress_to_leaves_end c = let l = sized (goal.at.slice_bounds_compress_to_leaves_end c).Start in omega arith
+pub slice_bounds-compress_to_leaves-end : goal.slice_bounds-compress_to_leaves-end
+slice_bounds-compress_to_leaves-end c = let l = sized (goal.at.slice_bounds-compress_to_leaves-end c).Start in omega arith
 
-pub slice_bounds_store_end : goal.slice_bounds_store_end
-slice_bounds_store_end c = let l = sized (goal.at.slice_bounds_store_end c).Start in omega arith
+pub slice_bounds-store-end-2 : goal.slice_bounds-store-end-2
+slice_bounds-store-end-2 c = let l = sized (goal.at.slice_bounds-store-end-2 c).Start in omega arith
 
 pub returns : goal.returns
 returns c =

@@ -33,10 +33,10 @@ unfolding finalized
 returns-then-not-range_of c =
     refused _ _ _ c.range_of.ensures (ap not c.if-not-range_of.true) c.refused.ensures
 
-pub slice_bounds_finish_leaves_end : goal.slice_bounds_finish_leaves_end
-slice_bounds_finish_leaves_end c =
-    let l = sized (goal.at.slice_bounds_finish_leaves_end c).Start in
-    omega (arith, (ranged (goal.at.slice_bounds_finish_leaves_end c).Else-not-range_of).held)
+pub slice_bounds-finish_leaves-end : goal.slice_bounds-finish_leaves-end
+slice_bounds-finish_leaves-end c =
+    let l = sized (goal.at.slice_bounds-finish_leaves-end c).Start in
+    omega (arith, (ranged (goal.at.slice_bounds-finish_leaves-end c).Else-not-range_of).held)
 
 pub finish_leaves-leaves-requires : goal.finish_leaves-leaves-requires
 unfolding limit

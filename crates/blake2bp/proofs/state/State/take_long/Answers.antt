@@ -25,8 +25,8 @@ rows_fit c = let e = c.spare_rows-rows.ensures in omega arith
 pub overflow_mul-end : goal.overflow_mul-end
 overflow_mul-end c = let n = rows_fit c in omega arith
 
-pub slice_bounds_compress_rows_end : goal.slice_bounds_compress_rows_end
-slice_bounds_compress_rows_end c = let n = rows_fit (goal.at.slice_bounds_compress_rows_end c).After-spare_rows-rows in omega (arith, n.0)
+pub slice_bounds-compress_rows-end : goal.slice_bounds-compress_rows-end
+slice_bounds-compress_rows-end c = let n = rows_fit (goal.at.slice_bounds-compress_rows-end c).After-spare_rows-rows in omega (arith, n.0)
 
 pub compress_rows-s-requires : goal.compress_rows-s-requires
 compress_rows-s-requires c =

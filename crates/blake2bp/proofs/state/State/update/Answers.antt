@@ -52,17 +52,17 @@ returns-then-n-left c =
     passed _ _ _ c.range_of.ensures (ap not c.if-not-range_of.false)
     (fails _ _ _ (lt-leb (total a.self + length a.input.now) limit (omega (arith, r.within, c.if-n-left.true))) refl)
 
-within : (c : Else-n-left) → total (begun c).args.self + length (begun c).args.input.now ≤ limit
+within : (c : Else-n-left) → total c.args.self + length c.args.input.now ≤ limit
 unfolding limit
 within c = let r = ranged (goal.at.Else-n-left c).Else-not-range_of in omega (arith, r.within, c.if-n-left.false)
 
 -- so every byte is taken
-taken : (c : Else-n-left) {r : State} → r ≡ pushed (begun c).args.self (begun c).args.input.now
-    → record { number = accepted; state = r } ≡ updated (begun c).args.self (begun c).args.input.now
+taken : (c : Else-n-left) {r : State} → r ≡ pushed c.args.self c.args.input.now
+    → record { number = accepted; state = r } ≡ updated c.args.self c.args.input.now
 unfolding updated
 taken c e =
     let i = c in
-    passed _ _ _ i.range_of.ensures i.if-not-range_of.left (holds _ _ _ (le-leb _ limit (within c)) (ap (reads.state accepted) e))
+    passed _ _ _ i.range_of.ensures (ap not c.if-not-range_of.false) (holds _ _ _ (le-leb _ limit (within c)) (ap (reads.state accepted) e))
 
 pub take_long-state-requires : goal.take_long-state-requires
 take_long-state-requires c = (c.if-held-eq0.true, omega (arith, within (goal.at.take_long-state-requires c).Else-n-left))

@@ -52,6 +52,9 @@ module _ {X : Type 0} (kind : Kind X) where
   done_asked x digest asks = refl
   done_asked x (digest_to out) asks = refl
   done_asked x count asks = refl
+  done_asked x (opening p) asks = elim asks [ ]
+  done_asked x (update d) asks = elim asks [ ]
+  done_asked x close asks = elim asks [ ]
 
   reply_asked : (x : X) (ask : Ask) → Asks ask → (reply kind x ask).slot ≡ x
   unfolding reply

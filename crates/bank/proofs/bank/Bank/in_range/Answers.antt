@@ -4,15 +4,15 @@ use mathlib.Core.Bool.{not}
 use mathlib.Core.Path.{ap, ◌≡◌, refl, sym, ◌∙◌}
 use Prim.Native.Nat.{◌-◌}
 use native.Mathlib.Omega.{arith}
+use borrow.Author.Rules.{rules}
 use lib.ListN.{length}
 use Rattle.bank.specs.Slots.{slot_good}
-use Rattle.bank.specs.contracts.slot.Slot as slot_type
-use Rattle.bank.proofs.Steps.{unmapped, every_stops, every_goes_on, every_ends}
+use Rattle.bank.proofs.Steps.{every_stops, every_goes_on, every_ends}
 use Rattle.bank.proofs.bank.Bank.in_range.Goals as goal
 use Rattle.bank.proofs.bank.Bank.in_range.Goals.{Start}
 
 sized : (c : Start) → length c.args.self.slots ≡ 16
-sized c = unmapped (slot_type.the_type).to c.args.self.slots 16 c.well_formed.0.1.1.0.1.0.1
+sized c = search rules
 
 pub loop-i-init : goal.loop-i-init
 loop-i-init c = (omega arith, refl)

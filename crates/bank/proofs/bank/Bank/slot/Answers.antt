@@ -1,15 +1,15 @@
 -- `bank::bank::Bank::slot` meets its contract.
 -- Assumes nothing.
 use mathlib.Core.Path.{◌≡◌, sym, ◌∙◌}
+use borrow.Author.Rules.{rules}
 use lib.ListN.{length, get_or-eq_default}
 use Rattle.bank.specs.Slots.{closed_slot}
-use Rattle.bank.specs.contracts.slot.Slot as slot_type
-use Rattle.bank.proofs.Steps.{unmapped, any_default}
+use Rattle.bank.proofs.Steps.{any_default}
 use Rattle.bank.proofs.bank.Bank.slot.Goals as goal
 use Rattle.bank.proofs.bank.Bank.slot.Goals.{Start}
 
 sized : (c : Start) → length c.args.self.slots ≡ 16
-sized c = unmapped (slot_type.the_type).to c.args.self.slots 16 c.well_formed.0.1.1.0.1.0.1
+sized c = search rules
 
 pub returns-then-slot-ge-SLOTS : goal.returns-then-slot-ge-SLOTS
 returns-then-slot-ge-SLOTS c =

@@ -4,21 +4,20 @@ use mathlib.Core.Bool.{not}
 use mathlib.Core.Path.{◌≡◌, sym, ap, ◌∙◌}
 use Prim.Native.Nat.{◌-◌, ◌≤◌}
 use native.Mathlib.Omega.{arith}
+use borrow.Author.Rules.{rules}
 use lib.ListN.{length}
 use Rattle.bank.specs.Slots.{batch_answer}
-use Rattle.bank.specs.contracts.slot.Slot as slot_type
-use Rattle.bank.proofs.Steps.{unmapped}
 use Rattle.bank.proofs.Batches.{batch_bad, batch_too_long, batch_starts, batch_slot_number, batch_stops, batch_goes_on, slots_kept, batch_ends}
 use Rattle.bank.proofs.bank.Bank.update_many.Goals as goal
 use Rattle.bank.proofs.bank.Bank.update_many.Goals.{At-loop-i, Start}
 
 sized : (c : Start) → length c.args.self.slots ≡ 16
-sized c = unmapped (slot_type.the_type).to c.args.self.slots 16 c.well_formed.0.1.1.0.1.0.1
+sized c = search rules
 
 many : (c : Start) → length c.args.pieces ≡ 16
 many c = omega (arith, c.well_formed.1.0.1.0.1)
 
--- so many (goal.at.At-loop-i l).Start are there
+-- so many records are there
 fits : (l : At-loop-i) → l.args.used ≤ length l.args.pieces
 fits l = rw (many (goal.at.At-loop-i l).Start) l.loop-i.invariant.1
 

@@ -2,7 +2,7 @@ pub mod Abc
 pub mod Appending
 pub mod Decimals
 pub mod Longest
-pub mod Reading
+pub mod ReadingLaws
 pub mod Reports
 pub mod Unique
 pub mod Readings

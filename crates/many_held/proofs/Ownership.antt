@@ -3,7 +3,6 @@
 use mathlib.Core.Path.{◌≡◌}
 use mathlib.Core.List.{List, [], ◌∷◌}
 use Prim.Native.Nat.{ℕ}
-use borrow.Author.Rules.{length_unmapped}
 use lib.ListN.{length}
 use seplogic.Ra.Ura.{Ura}
 use mir.Syntax.{named, w8, w64}
@@ -15,7 +14,7 @@ use types.Kit.{Item, ‵, raw, ◌⊛◌, ⋆, given, ◌$◌, ◌∵◌, !, qed
 use denote.Array.{Array, Array-Makes}
 use denote.RattleType.{RattleType, owns}
 use denote.Laws.{Is}
-use denote.Plain.{uint_Makes, bool_Makes}
+use denote.Plain.{uint_Makes, bool_Makes, uint_row_laws}
 use denote.Builtin.{u8, u64, bool}
 use denote.Ref.{Bor, NamedLft}
 use denote.Signature.{named_lft}
@@ -114,7 +113,7 @@ module _ {M : Type 1} {𝓤 : Ura M} (𝓛 : Logic 𝓤) (κ : Lft) where
 
       pub lent : {Q : SProp 𝓤} → ent 𝓤 (⋆ 𝓛 (Token q ∷ ‵ StepOwns ∷ [])) Q → ent 𝓤 (⋆ 𝓛 (Token q ∷ ‵ (InputOwn x) ∷ [])) (sep 𝓤 Q (sem 𝓛 (InputOwn x)))
       lent {Q} asked =
-          qed 𝓛 (Token q ∷ ‵ (InputOwn x) ∷ []) ∵ move ! (1 ∷ []) $ use1 𝓛 (‵ (InputOwn x) ⊛ ‵ (InputOwn x)) ((shr_slice_copy 𝓛 (named 0) κ u8).twice x (shr_slice_vals x)) $ split ! $
+          qed 𝓛 (Token q ∷ ‵ (InputOwn x) ∷ []) ∵ move ! (1 ∷ []) $ use1 𝓛 (‵ (InputOwn x) ⊛ ‵ (InputOwn x)) ((shr_slice_copy 𝓛 (named 0) κ u8 (uint_row_laws w8)).twice x (shr_slice_vals x)) $ split ! $
           -- [what the input owns, twice; the token]
           nothing ! $ move ! (1 ∷ 0 ∷ []) $ fjoin ! $ owned ! (row N) (Is (row N)) (LL.makes N plain 𝓛) d _ is $ fjoin ! $ move ! (2 ∷ 0 ∷ []) $ use2 𝓛 (raw Q) asked $ frame ! $ done !
 
@@ -147,4 +146,4 @@ module _ {M : Type 1} {𝓤 : Ura M} (𝓛 : Logic 𝓤) (κ : Lft) where
 
 -- a key block has its full size
 pub whole_block : (p : Params) → Is P.the_row p (LL.vals P.the_type P'.the_laws p) → length p.key_block ≡ blockbytes
-whole_block p is = length_unmapped ℕ p.key_block blockbytes (LL.owed P.the_type P'.the_laws p _ is).1.1.0.1.0.1
+whole_block p is = (LL.owed P.the_type P'.the_laws p _ is).1.1.0.1.0.1

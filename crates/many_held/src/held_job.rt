@@ -31,10 +31,11 @@ impl<'a> HashManyJob<'a> {
         ensures { result ≡ made_job params input.entry }
     {
         let made = make(params, input);
+        let words = made.work.words;
         JobAnswer {
             number: made.number,
             job: HashManyJob {
-                words: made.work.words,
+                words,
                 count: made.work.count,
                 last_node: made.work.last_node,
                 hash_length: made.work.hash_length,
@@ -55,10 +56,11 @@ impl<'a> HashManyJob<'a> {
             finished: self.finished,
         };
         let after = run(work, self.input);
+        let words = after.work.words;
         JobAnswer {
             number: after.number,
             job: HashManyJob {
-                words: after.work.words,
+                words,
                 count: after.work.count,
                 last_node: after.work.last_node,
                 hash_length: after.work.hash_length,

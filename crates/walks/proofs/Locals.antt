@@ -5,7 +5,7 @@ use Prim.Native.Nat.{ℕ, zero, ◌+◌}
 use mathlib.Core.List.{List, [], ◌∷◌}
 use mathlib.Core.Option.{some}
 use seplogic.Ra.Ura.{Ura}
-use seplogic.Ra.TreeShare.{full_share}
+use base.Fraction.{full_share}
 use lib.Dec.{T as Holds}
 use mir.Syntax.{Sym, Ty, Tys, ty_struct, place, field, copy, assign, Rv as RValue, Body, seq}
 use mir.Val.{Val, Vals, vstruct, WT, has_ty}

@@ -4,7 +4,7 @@ use mathlib.Core.Path.{◌≡◌, ap}
 use Prim.Native.Nat.{ℕ}
 use mathlib.Core.List.{List, [], ◌∷◌}
 use seplogic.Ra.Ura.{Ura}
-use mir.Syntax.{Name, Fn, Place, Opd as Operand, Body, seq, call}
+use mir.Syntax.{Callee, Fn, Place, Opd as Operand, Body, seq, call}
 use mir.Val.{Val}
 use base.Logic.{SProp, ent, sep, emp, via, ex_e, snd∗, emp∗, mono∗, comm∗, id⊢}
 use prog.Model.{Model}
@@ -48,7 +48,7 @@ contract_of 𝓛 T c = triple_of 𝓛 T.signature (closing 𝓛 T c)
 pub asks_nothing : {M : Type 1} (𝓤 : Ura M) {P Q : SProp 𝓤} → ent 𝓤 P Q → ent 𝓤 P (sep 𝓤 Q (emp 𝓤))
 asks_nothing 𝓤 {P} {Q} h = via 𝓤 Q h (via 𝓤 (sep 𝓤 (emp 𝓤) Q) (emp∗ 𝓤 Q) (comm∗ 𝓤 (emp 𝓤) Q))
 
-module _ {M : Type 1} {𝓤 : Ura M} {𝓛 : Logic 𝓤} {K : Type 0} {Γ : List (Item 𝓤)} {E : Env 𝓤 𝓛.H} {Λ : Loops 𝓤 𝓛.H} {q : Post 𝓤 𝓛.H} {f : Name} {xs : List Operand}
+module _ {M : Type 1} {𝓤 : Ura M} {𝓛 : Logic 𝓤} {K : Type 0} {Γ : List (Item 𝓤)} {E : Env 𝓤 𝓛.H} {Λ : Loops 𝓤 𝓛.H} {q : Post 𝓤 𝓛.H} {f : Callee} {xs : List Operand}
     {d : Place} {rest : Body} (T : Ended) (c : Clauses 𝓤 T) where
   -- what the callee promises is learned, its result's machine value is about to land, what the result owns is had, and the tokens are back
   open 𝓛 use {H}
@@ -138,7 +138,7 @@ module _ {M : Type 1} {𝓤 : Ura M} (𝓛 : Logic 𝓤) (𝓜 : Model 𝓤 𝓛
   abbrev meant : Tables 𝓤 H
   meant = tables_of 𝓤 H 𝓜 (tables 𝓤 H 𝓜 𝓡 γ)
 
-  pub stands : (f : Name) (fn : Fn) → Closed 𝓤 H (tables 𝓤 H 𝓜 𝓡 γ).C (tables 𝓤 H 𝓜 𝓡 γ).Λ f fn → Silents 𝓛 T.signature.params T.kept
+  pub stands : (f : Callee) (fn : Fn) → Closed 𝓤 H (tables 𝓤 H 𝓜 𝓡 γ).C (tables 𝓤 H 𝓜 𝓡 γ).Λ f fn → Silents 𝓛 T.signature.params T.kept
       → (sp : Spelt 𝓛 T c) → Told 𝓛 T c sp → Walks 𝓛 T c sp fn meant → Triple 𝓤 ((tables 𝓤 H 𝓜 𝓡 γ).C f) (contract_of 𝓛 T c)
   unfolding tables_of
   stands f fn closed sil sp tl walk =

@@ -3,23 +3,17 @@
 use mathlib.Core.Path.{ap, ◌∙◌}
 use mathlib.Core.List.{[]}
 use native.Mathlib.Omega.{arith}
-use borrow.Author.Rules.{rules}
 use Rattle.definitions.specs.Family.{BLAKE2b}
 use Rattle.definitions.specs.Hash.{blake2}
 use Rattle.hash.specs.Hash.{hash_of}
 use Rattle.hash.proofs.Outputs.{written_output}
 use Rattle.blake2b_state.specs.Sizes.{outbytes}
 use Rattle.blake2b.proofs.Plain.{digest_plain, length_of_digest}
-use Rattle.exports.proofs.sumpillow_blake2b.Statement.{statement}
-use Rattle.exports.proofs.sumpillow_blake2b.Tie as tie
+use Rattle.exports.proofs.sumpillow_blake2b.Goals as goal
 
-returns : tie.Need-returns
+pub returns : goal.returns
 returns c =
-    let b = c.before.before.before.before in
-    let a = b.before.before.before.args in
+    let a = c.args in
     let m = a.input.now in
     written_output (blake2 BLAKE2b outbytes [] m) a.out.now outbytes (omega arith) (omega arith) (length_of_digest m)
-    (b.blake2b.ensures ∙ ap hash_of (digest_plain m)) c.before.before.write_bytes.ensures
-
-pub sumpillow_blake2b_spec : {M : Type 1} → statement M
-sumpillow_blake2b_spec = tie.close (tie.spec (search rules) (search rules) (search rules) returns)
+    (c.blake2b.ensures ∙ ap hash_of (digest_plain m)) c.write_bytes-written.ensures

@@ -2,13 +2,23 @@
 
 // Runs a script of calls: it comes on standard input, and the answers go to standard output.
 // The work is that of crates replay, replay_batches and replay_blake2bp; here a line is put together from what the reads bring.
-use bytes::scan::find;
-use libc::{STDIN_FILENO, STDOUT_FILENO};
 use replay_text::{
-    Answer, COMMAND, Call, LONGEST, NO_ROW, answer_of, part, put, put_answer, with_message,
+    Answer, COMMAND, Call, LONGEST, NO_ROW, answer_of, find, part, put, put_answer, with_message,
 };
+use std::io;
+use std::io::Read;
 
-// What was read and is not taken yet, how many bytes of a line are held, whether that is all of it, and whether there may be more.
+// One read's bytes: a big buffer, as each read is a call of the system.
+const PIECE: usize = 65536;
+
+// The longest message's bytes.
+const SPACE: usize = 4194304;
+
+// The longest answer, which shows 1,024 bytes, has room.
+const TEXT: usize = 4096;
+
+// What was read and is not taken yet, how many bytes of a line are held, whether that is all of it, whether there may be more, and
+// whether no read failed.
 #[derive(Clone, Copy)]
 struct Input {
     at: usize,
@@ -16,6 +26,7 @@ struct Input {
     held: usize,
     complete: bool,
     more: bool,
+    readable: bool,
 }
 
 // The sessions that the calls are on, and where the input is.
@@ -25,6 +36,13 @@ struct Place {
     blake2b: replay::Session,
     batches: replay_batches::Session,
     blake2bp: replay_blake2bp::Session,
+}
+
+// Where the run is behind a turn, and what a line is answered: nothing where none was complete.
+#[derive(Clone, Copy)]
+struct Outcome {
+    place: Place,
+    answer: Option<Answer>,
 }
 
 // Whose a call is.
@@ -40,47 +58,49 @@ struct Named {
     call: Call,
 }
 
-// The longest answer, which shows 1,024 bytes, has room in the buffer's 4,096.
-fn write_answer(answer: Answer) {
-    let mut out = io::buffer();
-    let length = put_answer(&mut out, answer);
-    io::write_all(STDOUT_FILENO, part(&out, 0, length));
+fn write_answer(output: &impl Print, answer: Answer) -> io::Result<()> {
+    let mut text = [0u8; TEXT];
+    let length = put_answer(&mut text, answer);
+    output.write_all(part(&text, 0, length))
 }
 
-fn on_blake2b(place: Place, call: Call, message: &[u8]) -> Place {
+fn answered(place: Place, answer: Answer) -> Outcome {
+    Outcome {
+        place,
+        answer: Some(answer),
+    }
+}
+
+fn on_blake2b(place: Place, call: Call, message: &[u8]) -> Outcome {
     let session = place.blake2b;
     let next = replay::run(session, call, message);
-    write_answer(next.answer);
     let mut after = place;
     after.blake2b = next;
-    after
+    answered(after, next.answer)
 }
 
 // Jobs and banks are made with BLAKE2b's current parameters.
-fn on_batches(place: Place, call: Call, message: &[u8]) -> Place {
+fn on_batches(place: Place, call: Call, message: &[u8]) -> Outcome {
     let base = place.blake2b;
     let session = place.batches;
     let next = replay_batches::run(session, base.params, call, message);
-    write_answer(next.answer);
     let mut after = place;
     after.batches = next;
-    after
+    answered(after, next.answer)
 }
 
-fn on_blake2bp(place: Place, call: Call, message: &[u8]) -> Place {
+fn on_blake2bp(place: Place, call: Call, message: &[u8]) -> Outcome {
     let session = place.blake2bp;
     let next = replay_blake2bp::run(session, call, message);
-    write_answer(next.answer);
     let mut after = place;
     after.blake2bp = next;
-    after
+    answered(after, next.answer)
 }
 
 // What is no call is answered with what is wrong, and changes nothing.
-fn call_on(place: Place, whose: u8, call: Call, message: &[u8]) -> Place {
+fn call_on(place: Place, whose: u8, call: Call, message: &[u8]) -> Outcome {
     if call.row == NO_ROW {
-        write_answer(answer_of(0, call.fault, 0));
-        return place;
+        return answered(place, answer_of(0, call.fault, 0));
     }
     match whose {
         BLAKE2B => on_blake2b(place, call, message),
@@ -113,7 +133,7 @@ fn read(line: &[u8]) -> Named {
 }
 
 // A message is made in the space.
-fn run(place: Place, line: &[u8], space: &mut [u8]) -> Place {
+fn run(place: Place, line: &[u8], space: &mut [u8]) -> Outcome {
     let named = read(line);
     let read = named.call;
     let call = with_message(read, line, space);
@@ -122,30 +142,29 @@ fn run(place: Place, line: &[u8], space: &mut [u8]) -> Place {
 
 // The input has ended, or can't be read. A last line needs no line feed.
 fn ended(input: Input, readable: bool) -> Input {
-    if !readable {
-        io::write_all(STDOUT_FILENO, b"unreadable\n");
-    }
     Input {
         at: 0,
         end: 0,
         held: input.held,
         complete: readable,
         more: false,
+        readable,
     }
 }
 
 // One read.
-fn read_some(input: Input, piece: &mut [u8]) -> Input {
-    let got = libc::read(STDIN_FILENO, piece);
-    if got <= 0 {
-        return ended(input, got == 0);
-    }
-    Input {
-        at: 0,
-        end: io::count(got, piece),
-        held: input.held,
-        complete: false,
-        more: true,
+fn read_some(reader: &mut impl Read, input: Input, piece: &mut [u8]) -> Input {
+    match reader.read(piece) {
+        Err(_) => ended(input, false),
+        Ok(0) => ended(input, true),
+        Ok(end) => Input {
+            at: 0,
+            end,
+            held: input.held,
+            complete: false,
+            more: true,
+            readable: true,
+        },
     }
 }
 
@@ -159,20 +178,22 @@ fn take(input: Input, piece: &[u8], line: &mut [u8]) -> Input {
     if to > piece.len() {
         return input;
     }
-    let end = find(piece, from, to, b'\n');
-    let at = end + 1;
-    let held = put(line, input.held, part(piece, from, end));
+    let taken = &piece[from..to];
+    let length = find(taken, b'\n');
+    let held = put(line, input.held, part(taken, 0, length));
+    let end = from + length;
     Input {
-        at,
+        at: end + 1,
         end: to,
         held,
         complete: end < to,
         more: true,
+        readable: true,
     }
 }
 
 // A line that was complete is held no more.
-fn step(input: Input, piece: &mut [u8], line: &mut [u8]) -> Input {
+fn step(reader: &mut impl Read, input: Input, piece: &mut [u8], line: &mut [u8]) -> Input {
     let mut now = input;
     if input.complete {
         now.held = 0;
@@ -180,18 +201,27 @@ fn step(input: Input, piece: &mut [u8], line: &mut [u8]) -> Input {
     if input.at < input.end {
         return take(now, piece, line);
     }
-    read_some(now, piece)
+    read_some(reader, now, piece)
 }
 
 // The line that is held is run where it is complete.
-fn turn(place: Place, piece: &mut [u8], line: &mut [u8], space: &mut [u8]) -> Place {
-    let input = step(place.input, piece, line);
+fn turn(
+    reader: &mut impl Read,
+    place: Place,
+    piece: &mut [u8],
+    line: &mut [u8],
+    space: &mut [u8],
+) -> Outcome {
+    let input = step(reader, place.input, piece, line);
     let mut next = place;
     next.input = input;
     if input.complete {
         return run(next, part(line, 0, input.held), space);
     }
-    next
+    Outcome {
+        place: next,
+        answer: None,
+    }
 }
 
 fn start() -> Place {
@@ -201,6 +231,7 @@ fn start() -> Place {
         held: 0,
         complete: false,
         more: true,
+        readable: true,
     };
     let blake2b = replay::Session::new();
     let batches = replay_batches::Session::new();
@@ -213,26 +244,37 @@ fn start() -> Place {
     }
 }
 
+// The answers are written as they are made. A write that fails doesn't end the run, which goes by its input alone: the first is answered.
 // A proved loop has to end, and nothing says that the input does: no run has so many turns.
-fn read_all(piece: &mut [u8], line: &mut [u8], space: &mut [u8]) {
+fn read_all(
+    reader: &mut impl Read,
+    output: &impl Print,
+    piece: &mut [u8],
+    line: &mut [u8],
+    space: &mut [u8],
+) -> io::Result<()> {
     let mut place = start();
-    let mut turns = u64::MAX;
-    while turns > 0 && place.input.more {
-        turns -= 1;
-        let next = turn(place, piece, line, space);
-        place = next;
+    let mut written = Ok(());
+    for _ in 0..u64::MAX {
+        if !place.input.more {
+            break;
+        }
+        let next = turn(reader, place, piece, line, space);
+        place = next.place;
+        if let Some(answer) = next.answer {
+            written = written.and(write_answer(output, answer));
+        }
     }
-}
-
-// As long as the longest message.
-fn empty_space() -> [u8; 4194304] {
-    [0; 4194304]
+    if !place.input.readable {
+        written = written.and(output.write_all(b"unreadable\n"));
+    }
+    written
 }
 
 // A line's buffer has a byte more than the longest line, so that a longer one is seen.
-fn main() {
-    let mut piece = io::large_buffer();
+fn main(rt: HostRuntime) -> io::Result<()> {
+    let mut piece = [0u8; PIECE];
     let mut line = [0u8; LONGEST + 1];
-    let mut space = empty_space();
-    read_all(&mut piece, &mut line, &mut space);
+    let mut space = [0u8; SPACE];
+    read_all(&mut rt.stdin(), &rt, &mut piece, &mut line, &mut space)
 }

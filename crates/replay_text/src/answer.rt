@@ -81,10 +81,8 @@ pub fn put_answer(out: &mut [u8], answer: Answer) -> usize {
                   9number=N equal=V\n;Anumber=N length=V bytes=B\n;";
     let text = before(after(texts, answer.kind), b';');
     let mut at: usize = 0;
-    let mut i: usize = 0;
-    while i < text.len() {
-        at = put_byte(out, at, text[i], answer);
-        i += 1;
+    for byte in text {
+        at = put_byte(out, at, *byte, answer);
     }
     at
 }

@@ -3,9 +3,7 @@
 use crate::answer::{COMMAND, LINE, MESSAGE, NOTHING, NUMBER};
 use crate::message::{Message, read_message};
 use crate::output::part;
-use crate::text::{Number, after, before, read_number};
-use bytes::scan::find;
-use check::same;
+use crate::text::{Number, after, before, find, read_number};
 
 // The longest line, in bytes.
 pub const LONGEST: usize = 8192;
@@ -43,16 +41,16 @@ enum Row {
 fn is_named(line: &[u8], name: &[u8]) -> bool {
     let n = name.len();
     if n < line.len() {
-        return line[n] == b' ' && same(part(line, 0, n), name);
+        return line[n] == b' ' && part(line, 0, n) == name;
     }
-    same(line, name)
+    line == name
 }
 
 fn look_up(line: &[u8], table: &[u8]) -> Row {
     let mut row: usize = 0;
     let mut at: usize = 0;
     while at < table.len() {
-        let end = find(table, at, table.len(), b';');
+        let end = at + find(part(table, at, table.len()), b';');
         if is_named(line, before(part(table, at, end), b':')) {
             return Row::At(row, at);
         }

@@ -14,4 +14,4 @@ pub use answer::{
 };
 pub use call::{Call, LONGEST, NO_ROW, read_line, with_message};
 pub use output::{front, part, put};
-pub use text::{low8, low32};
+pub use text::{find, low8, low32};

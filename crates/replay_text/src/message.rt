@@ -64,11 +64,9 @@ fn next(kind: u8, x: u64) -> u64 {
 // A message of `length` bytes, from the number for the first one, to the front of the space.
 fn make(kind: u8, first: u64, length: usize, digits: &[u8], space: &mut [u8]) {
     let mut x = first;
-    let mut i: usize = 0;
-    while i < length {
+    for i in 0..length {
         push(space, i, byte_at(kind, x, digits));
         x = next(kind, x);
-        i += 1;
     }
 }
 
@@ -81,15 +79,14 @@ fn kind_of(text: &[u8]) -> u8 {
 
 // The number of bytes that digits write. No line has so many that they wouldn't fit the space.
 fn length_of_digits(digits: &[u8]) -> Number {
-    let mut i: usize = 0;
-    while i < digits.len() {
-        if digit_value(digits[i]) > 15 {
+    for digit in digits {
+        if digit_value(*digit) > 15 {
             return Number::Malformed;
         }
-        i += 1;
     }
-    if i % 2 == 0 {
-        return Number::Value((i / 2) as u64);
+    let n = digits.len();
+    if n % 2 == 0 {
+        return Number::Value((n / 2) as u64);
     }
     Number::Malformed
 }

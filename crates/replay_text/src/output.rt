@@ -30,10 +30,8 @@ pub fn push(out: &mut [u8], at: usize, byte: u8) -> usize {
 
 pub fn put(out: &mut [u8], at: usize, text: &[u8]) -> usize {
     let mut end = at;
-    let mut i: usize = 0;
-    while i < text.len() {
-        end = push(out, end, text[i]);
-        i += 1;
+    for byte in text {
+        end = push(out, end, *byte);
     }
     end
 }
@@ -55,12 +53,9 @@ fn digit(n: u8) -> u8 {
 // The bytes in hexadecimal.
 pub fn put_hex(out: &mut [u8], at: usize, bytes: &[u8]) -> usize {
     let mut end = at;
-    let mut i: usize = 0;
-    while i < bytes.len() {
-        let byte = bytes[i];
-        end = push(out, end, digit(byte / 16));
-        end = push(out, end, digit(byte % 16));
-        i += 1;
+    for byte in bytes {
+        end = push(out, end, digit(*byte / 16));
+        end = push(out, end, digit(*byte % 16));
     }
     end
 }

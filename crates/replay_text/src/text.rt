@@ -1,7 +1,8 @@
 // The words and the numbers of a line.
 // A mark is a byte between two parts: a space, a colon, a bracket.
+ghost use Rattle.std.specs.Prelude.{◌≡◌, ◌≢◌, ℕ, ◌<◌, ◌≤◌, length, slice_index};
+
 use crate::output::part;
-use bytes::scan::find;
 
 // A number that was read.
 #[derive(Clone, Copy)]
@@ -10,14 +11,25 @@ pub enum Number {
     Malformed,
 }
 
+// Where the first mark is: the text's length where there is none.
+pub fn find(text: &[u8], mark: u8) -> usize
+    ensures within { result ≤ length text.now }
+    ensures before { (k : ℕ) → k < result → slice_index text.now k ≢ mark }
+    ensures found { result < length text.now → slice_index text.now result ≡ mark }
+{
+    text.iter()
+        .position(|byte| *byte == mark)
+        .unwrap_or(text.len())
+}
+
 // The text in front of the first mark: all of it where there is none.
 pub fn before<'a>(text: &'a [u8], mark: u8) -> &'a [u8] {
-    part(text, 0, find(text, 0, text.len(), mark))
+    part(text, 0, find(text, mark))
 }
 
 // The text behind the first mark: nothing where there is none.
 pub fn after<'a>(text: &'a [u8], mark: u8) -> &'a [u8] {
-    let at = find(text, 0, text.len(), mark);
+    let at = find(text, mark);
     part(text, at + 1, text.len())
 }
 
@@ -42,13 +54,11 @@ pub fn read_number(text: &[u8], most: u64) -> Number {
         return Number::Malformed;
     }
     let mut value: u64 = 0;
-    let mut i: usize = 0;
-    while i < text.len() {
-        let Number::Value(next) = with_digit(value, text[i]) else {
+    for digit in text {
+        let Number::Value(next) = with_digit(value, *digit) else {
             return Number::Malformed;
         };
         value = next;
-        i += 1;
     }
     if value > most {
         return Number::Malformed;

@@ -1,5 +1,5 @@
-/* What a C program links of Sumpillow: the archives of `rt staticlib exports` (BLAKE2b) and of
- * `rt staticlib exports_blake2bp` (BLAKE2bp), for x86-64 Linux. They need memcpy and nothing else.
+/* What a C program links of Sumpillow: the archives of `bin/build exports` (BLAKE2b) and of
+ * `bin/build exports_blake2bp` (BLAKE2bp), for x86-64 Linux. They need memcpy and nothing else.
  *
  * All functions here have one form. The caller keeps both pieces of memory; nothing is kept after the call, and nothing
  * is allocated.

@@ -11,6 +11,9 @@ use std::io::Read;
 // One read's bytes: a big buffer, as each read is a call of the system.
 const PIECE: usize = 65536;
 
+// A byte more than the longest line, so that a longer one is seen.
+const LINE: usize = LONGEST + 1;
+
 // The longest message's bytes.
 const SPACE: usize = 4194304;
 
@@ -249,9 +252,9 @@ fn start() -> Place {
 fn read_all(
     reader: &mut impl Read,
     output: &impl Print,
-    piece: &mut [u8],
-    line: &mut [u8],
-    space: &mut [u8],
+    piece: &mut [u8; PIECE],
+    line: &mut [u8; LINE],
+    space: &mut [u8; SPACE],
 ) -> io::Result<()> {
     let mut place = start();
     let mut written = Ok(());
@@ -271,10 +274,14 @@ fn read_all(
     written
 }
 
-// A line's buffer has a byte more than the longest line, so that a longer one is seen.
+// As long as the longest message. Behind a function it is no literal, whose four million bytes a proof would go through.
+fn empty_space() -> [u8; SPACE] {
+    [0; SPACE]
+}
+
 fn main(rt: HostRuntime) -> io::Result<()> {
     let mut piece = [0u8; PIECE];
-    let mut line = [0u8; LONGEST + 1];
-    let mut space = [0u8; SPACE];
+    let mut line = [0u8; LINE];
+    let mut space = empty_space();
     read_all(&mut rt.stdin(), &rt, &mut piece, &mut line, &mut space)
 }

@@ -1,7 +1,7 @@
 #![tactic(auto)]
 
 // The text of a script: what a line is read as, and how an answer is written.
-// Test code: safe by proof, with no promise of its own, and nothing of BLAKE2. docs/REPLAY.md has the format.
+// Test code: safe by proof, with no promise but where a mark stands, and nothing of BLAKE2. docs/REPLAY.md has the format.
 mod answer;
 mod call;
 mod message;

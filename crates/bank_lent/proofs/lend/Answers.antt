@@ -1,7 +1,6 @@
 -- `bank_lent::lend` meets its contract: the front of the array is a list of just its records.
 -- Assumes nothing.
 use mathlib.Core.Path.{◌≡◌, refl, ap, ◌∙◌}
-use native.Mathlib.Omega.{arith}
 use borrow.Author.Rules.{rules}
 use lib.ListN.{length, take}
 use Rattle.bank.specs.Slots.{slots, slot_limit, batch_limit, batch_answer}

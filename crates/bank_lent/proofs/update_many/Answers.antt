@@ -1,6 +1,6 @@
 -- `bank_lent::update_many` meets its contract: the copy serves where all records are copied, or more were lent than a batch may have.
 -- Assumes nothing.
-use mathlib.Core.Path.{◌≡◌, ap, ◌∙◌}
+use mathlib.Core.Path.{ap, ◌∙◌}
 use Prim.Native.Nat.{◌≤◌}
 use native.Mathlib.Omega.{arith}
 use lib.ListN.{length}

@@ -1,7 +1,6 @@
 -- `compression::arranged` meets its contract. The loop's invariant: the first i words stand in the order of the row.
 -- Assumes nothing.
 use mathlib.Core.Path.{refl, ◌∙◌}
-use Prim.Native.Nat.{◌-◌}
 use native.Mathlib.Nat.{not-suc-le-zero}
 use native.Mathlib.Numerals.{add-one}
 use native.Mathlib.Omega.{arith}

@@ -1,7 +1,6 @@
 -- `blake2bp::state::key_row` meets its contract. The loop's invariant: the first i key blocks are stored.
 -- Assumes nothing.
 use mathlib.Core.Path.{◌≡◌, sym, ap, ◌∙◌}
-use Prim.Native.Nat.{◌-◌}
 use native.Mathlib.Omega.{arith}
 use borrow.Author.Rules.{rules}
 use lib.ListN.{length}

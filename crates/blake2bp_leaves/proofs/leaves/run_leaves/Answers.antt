@@ -1,7 +1,6 @@
 -- `blake2bp_leaves::leaves::run_leaves` meets its contract. The loop's invariant: the first i leaves were run.
 -- Assumes nothing.
 use mathlib.Core.Path.{◌≡◌, refl}
-use Prim.Native.Nat.{◌-◌}
 use native.Mathlib.Omega.{arith}
 use borrow.Author.Rules.{rules}
 use lib.ListN.{length-drop}

@@ -1,7 +1,6 @@
 -- `blake2bp_leaves::starts::leaf_words` meets its contract. The loop's invariant: the first i leaves have their words.
 -- Assumes nothing.
 use mathlib.Core.Path.{◌≡◌, refl, ◌∙◌}
-use Prim.Native.Nat.{◌-◌}
 use native.Mathlib.Omega.{arith}
 use lib.ListN.{replicate}
 use Rattle.laws_states.specs.Deal.{each}

@@ -1,7 +1,6 @@
 -- `guts::storing::clear` meets its contract. The loop's invariant: the first i bytes are zero.
 -- Assumes nothing.
 use mathlib.Core.Path.{refl, ap, ◌∙◌}
-use Prim.Native.Nat.{◌-◌}
 use native.Mathlib.Nat.{not-suc-le-zero}
 use native.Mathlib.Numerals.{add-one}
 use native.Mathlib.Omega.{arith}

@@ -1,7 +1,7 @@
 -- `guts::storing::store` meets its contract. The loop's invariant: the first i bytes are stored.
 -- Assumes nothing.
 use mathlib.Core.Path.{◌≡◌, refl}
-use Prim.Native.Nat.{◌<◌, ◌-◌, ◌+◌}
+use Prim.Native.Nat.{◌<◌, ◌+◌}
 use native.Mathlib.Numerals.{add-one}
 use native.Mathlib.Omega.{arith}
 use borrow.Author.Rules.{rules}

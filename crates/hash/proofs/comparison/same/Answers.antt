@@ -1,7 +1,6 @@
 -- `hash::comparison::same` meets its contract.
 -- Assumes nothing.
 use mathlib.Core.Path.{refl, sym}
-use Prim.Native.Nat.{◌-◌}
 use native.Mathlib.Omega.{arith}
 use Rattle.hash.proofs.Digests.{other_length_differs}
 use Rattle.hash.proofs.Turns.{same_differ, same_agree, same_ended}

@@ -1,7 +1,7 @@
 -- `many::batch::run_jobs` meets its contract. The loop's invariant: the first i jobs were run, each at its place.
 -- Assumes nothing.
 use mathlib.Core.Path.{◌≡◌, refl}
-use Prim.Native.Nat.{◌-◌, ◌≤◌}
+use Prim.Native.Nat.{◌≤◌}
 use native.Mathlib.Omega.{arith}
 use lib.ListN.{length}
 use Rattle.many.proofs.Batches.{used_accepted, next_run}

@@ -3,7 +3,6 @@
 use mathlib.Core.Path.{◌≡◌, ap, ◌∙◌}
 use borrow.Author.Rules.{rules}
 use lib.ListN.{length}
-use Rattle.hash.specs.declared.HashAnswer.{HashAnswer}
 use Rattle.blake2b_state.specs.Sizes.{blockbytes}
 use Rattle.many_held.specs.HeldJob.{ran_job, job_hash}
 use Rattle.many_held.specs.Steps.{unless_refused}

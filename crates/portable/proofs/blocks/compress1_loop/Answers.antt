@@ -2,7 +2,7 @@
 -- Assumes nothing.
 use mathlib.Core.Path.{◌≡◌, sym, ap, ◌∙◌}
 use mathlib.Core.Bool.{◌&&◌}
-use Prim.Native.Nat.{ℕ, ◌+◌, ◌^◌, ◌≤◌, min}
+use Prim.Native.Nat.{◌+◌, ◌^◌, ◌≤◌, min}
 use native.Mathlib.Omega.{arith}
 use lib.Dec.{leb}
 use lib.ListN.{length, drop}

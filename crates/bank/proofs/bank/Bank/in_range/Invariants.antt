@@ -5,7 +5,6 @@ use Prim.Native.Nat.{◌-◌, ◌≤◌}
 use lib.ListN.{drop}
 use Rattle.bank.specs.Rules.{every}
 use Rattle.bank.specs.Slots.{slot_good}
-use Rattle.bank.specs.contracts.slot.Slot as slot_type
 use Rattle.bank.proofs.bank.Bank.in_range.Given as goal
 
 abbrev pub invariant-loop-i : goal.invariant-loop-i

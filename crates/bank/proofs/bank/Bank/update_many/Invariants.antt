@@ -6,7 +6,6 @@ use lib.ListN.{length}
 use lib.Seq.{slice}
 use Rattle.bank.specs.Rules.{update_many, batch}
 use Rattle.bank.specs.Slots.{slots, slot_limit, told, batch_answer}
-use Rattle.bank.specs.contracts.slot.Slot as slot_type
 use Rattle.bank.proofs.bank.Bank.update_many.Given as goal
 
 abbrev pub invariant-loop-i : goal.invariant-loop-i

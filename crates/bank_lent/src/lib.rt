@@ -9,7 +9,7 @@ ghost use Rattle.bank_lent.specs.Copy.{blank};
 
 use bank::{Bank, BatchAnswer, MOST_RECORDS, Piece};
 
-// The records, copied. The functions up to `batch` do the work, so that the walk by hand below them only calls.
+// The records, copied. The functions up to `batch` do the work; those below them only call.
 #[derive(Clone, Copy)]
 struct Copied {
     list: [Piece; MOST_RECORDS],
@@ -69,7 +69,7 @@ fn lend(bank: Bank, pieces: [Piece; MOST_RECORDS], used: usize, data: &[u8]) -> 
     update_many(bank, &pieces[..used], data)
 }
 
-// A batch of the first `used` records of an array, through a lent list: a caller that lends one itself needs a walk by hand.
+// A batch of the first `used` records of an array, through a lent list.
 pub fn update_many_of_array(
     bank: Bank,
     pieces: [Piece; MOST_RECORDS],

@@ -1,5 +1,5 @@
 // A job beside the slice that it keeps. Each call takes the job apart, leaves the work to a step, and puts it together again.
-// The borrow checker covers no function over such a struct: these four are walked by hand, and hold no branch.
+// None of them holds a branch: the steps do, over plain work and a slice.
 ghost use Rattle.std.specs.Prelude.{◌≡◌};
 ghost use Rattle.blake2b.specs.Member.{hashed};
 ghost use Rattle.many_held.specs.HeldJob.{made_job, ran_job, job_hash};

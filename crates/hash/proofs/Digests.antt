@@ -43,7 +43,7 @@ pub made_hash : (n : ℕ) (d : List ℕ) {r : HashAnswer} → is_digest_length n
 unfolding made_from
 made_hash n d e l f = let b = digest_length_bounds n e in f ∙ rw (e, le-leb n (length d) (omega arith))
 
--- sameBytes answers yes exactly where the lists are equal
+-- `same_bytes` answers yes exactly where the lists are equal
 same_self : (s : List ℕ) → same_bytes s s ≡ true
 unfolding same_bytes
 same_self [] = refl

@@ -1,4 +1,4 @@
--- A promise of a function that is walked stands in the program logic: that it settles the answer is that whoever holds it of two answers holds that they are equal.
+-- A promise as it stands in the program logic: that it settles the answer is that whoever holds it of two answers holds that they are equal.
 -- Assumes nothing.
 use mathlib.Core.Path.{◌≡◌, sym, ◌∙◌}
 use seplogic.Ra.Ura.{Ura}

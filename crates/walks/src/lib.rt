@@ -1,4 +1,4 @@
 #![tactic(auto)]
 
-// What a walk by hand of a function that the borrow checker does not cover cites: it is in proofs/.
+// Laws of the program logic, in proofs/: what settles an answer, and what walks by hand share, of which none is left.
 // This crate has no running code.

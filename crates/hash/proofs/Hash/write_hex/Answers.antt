@@ -74,10 +74,11 @@ slice_bounds-write-end c = front (goal.at.slice_bounds-write-end c).After-put_he
 
 pub returns : goal.returns
 returns c =
+    let here = goal.at.returns c in
     let w = c.before.before in
     let p = w.before.before.before.before in
     let e = p.before.before.before.before.before in
     let a = e.before.before.before.args in
     let text = hex_of (digest_of a.self) in
-    written_good a.self (good (goal.at.returns c).Else-not-in_range) text a.out.now
-    (w.write.ensures.0 ∙ ap (λ (t : List ℕ). wrote (length t) (length a.out.now)) (made (goal.at.returns c).After-put_hex), w.write.ensures.1 ∙ ap (λ (t : List ℕ). wrote_over t a.out.now) (made (goal.at.returns c).After-put_hex))
+    written_good a.self (good here.Else-not-in_range) text a.out.now
+    (w.write.ensures.0 ∙ ap (λ (t : List ℕ). wrote (length t) (length a.out.now)) (made here.After-put_hex), w.write.ensures.1 ∙ ap (λ (t : List ℕ). wrote_over t a.out.now) (made here.After-put_hex))

@@ -17,11 +17,13 @@ loop-i-init c = (omega arith, refl)
 
 pub returns-then-number-ne-ACCEPTED : goal.returns-then-number-ne-ACCEPTED
 returns-then-number-ne-ACCEPTED c =
-    sym (first_found c.args.data_length c.args.jobs c.loop-i.i c.args.used _ c.loop-i-test.true (long (goal.at.returns-then-number-ne-ACCEPTED c).Start) c.refusal-number.ensures c.if-number-ne-ACCEPTED.true) ∙ c.loop-i.invariant.1
+    let here = goal.at.returns-then-number-ne-ACCEPTED c in
+    sym (first_found c.args.data_length c.args.jobs c.loop-i.i c.args.used _ c.loop-i-test.true (long here.Start) c.refusal-number.ensures c.if-number-ne-ACCEPTED.true) ∙ c.loop-i.invariant.1
 
 pub loop-i-preserved : goal.loop-i-preserved
 loop-i-preserved c =
-    (omega arith, sym (first_passed c.args.data_length c.args.jobs c.loop-i.i c.args.used _ c.loop-i-test.true (long (goal.at.loop-i-preserved c).Start) c.refusal-number.ensures c.if-number-ne-ACCEPTED.false) ∙ c.loop-i.invariant.1)
+    let here = goal.at.loop-i-preserved c in
+    (omega arith, sym (first_passed c.args.data_length c.args.jobs c.loop-i.i c.args.used _ c.loop-i-test.true (long here.Start) c.refusal-number.ensures c.if-number-ne-ACCEPTED.false) ∙ c.loop-i.invariant.1)
 
 pub returns : goal.returns
 returns c =

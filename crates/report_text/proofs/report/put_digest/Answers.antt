@@ -27,7 +27,8 @@ asked c = search rules
 made : (w : After-write_hex-answer) → let d = hex_of (digest_of w.args.hash) in
     (w.write_hex-answer.result.length ≡ length d) × (take w.write_hex-answer.result.length w.write_hex-answer.new.out ≡ d)
 made w =
-    hex_written w.args.hash (sized (goal.at.After-write_hex-answer w).Start) (asked (goal.at.After-write_hex-answer w).Start).0 _ w.write_hex-answer.new.out refl w.write_hex-answer.ensures.0 w.write_hex-answer.ensures.1
+    let here = goal.at.After-write_hex-answer w in
+    hex_written w.args.hash (sized here.Start) (asked here.Start).0 _ w.write_hex-answer.new.out refl w.write_hex-answer.ensures.0 w.write_hex-answer.ensures.1
 
 front : (w : After-write_hex-answer) → let n = w.write_hex-answer.result.length in
     (n ≤ length w.write_hex-answer.new.out) × (n ≡ length (take n w.write_hex-answer.new.out))
@@ -43,8 +44,9 @@ slice_bounds-put_line-end-2 c = (front (goal.at.slice_bounds-put_line-end-2 c).A
 
 pub put_line-requires : goal.put_line-requires
 put_line-requires c =
-    let few : length (take c.write_hex-answer.result.length c.write_hex-answer.new.out) ≤ longest_hex = rw (made (goal.at.put_line-requires c).After-write_hex-answer).1 (digest_fits c.args.hash (sized (goal.at.put_line-requires c).Start) (asked (goal.at.put_line-requires c).Start).0) in
-    let room = (asked (goal.at.put_line-requires c).Start).1 in
+    let here = goal.at.put_line-requires c in
+    let few : length (take c.write_hex-answer.result.length c.write_hex-answer.new.out) ≤ longest_hex = rw (made here.After-write_hex-answer).1 (digest_fits c.args.hash (sized here.Start) (asked here.Start).0) in
+    let room = (asked here.Start).1 in
     omega (arith, few, room)
 
 pub returns : goal.returns

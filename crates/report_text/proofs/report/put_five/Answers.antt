@@ -18,6 +18,7 @@ good c = search rules
 
 pub returns : goal.returns
 returns c =
+    let here = goal.at.returns c in
     five_appended c.args.out.now c.put_lengths-lengths.new.out c.put_number-counted.new.out c.put_digest.new.out
     c.put_lengths-lengths.result c.put_number-counted.result c.put_digest.result c.len-length.result.length c.args.count (digest_of c.args.hash)
-    (length_told c.args.hash (sized (goal.at.returns c).Start) (good (goal.at.returns c).Start) c.len-length.ensures) c.put_lengths-lengths.ensures.1 c.put_number-counted.ensures.1 c.put_digest.ensures
+    (length_told c.args.hash (sized here.Start) (good here.Start) c.len-length.ensures) c.put_lengths-lengths.ensures.1 c.put_number-counted.ensures.1 c.put_digest.ensures

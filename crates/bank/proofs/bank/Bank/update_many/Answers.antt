@@ -34,15 +34,17 @@ loop-i-init c =
 
 pub returns-then-k-ge-SLOTS : goal.returns-then-k-ge-SLOTS
 returns-then-k-ge-SLOTS c =
+    let here = goal.at.returns-then-k-ge-SLOTS c in
     let a = c.args in
-    c.refused-then-k-ge-SLOTS.ensures ∙ batch_slot_number _ _ a.pieces c.loop-i.i a.used _ _ c.loop-i-test.true (fits (goal.at.returns-then-k-ge-SLOTS c).At-loop-i) c.if-k-ge-SLOTS.true ∙ c.loop-i.invariant.3
+    c.refused-then-k-ge-SLOTS.ensures ∙ batch_slot_number _ _ a.pieces c.loop-i.i a.used _ _ c.loop-i-test.true (fits here.At-loop-i) c.if-k-ge-SLOTS.true ∙ c.loop-i.invariant.3
 
 pub returns-then-done-ne-ACCEPTED : goal.returns-then-done-ne-ACCEPTED
 returns-then-done-ne-ACCEPTED c =
+    let here = goal.at.returns-then-done-ne-ACCEPTED c in
     let a = c.args in
     let i = c.loop-i in
     c.refused-then-done-ne-ACCEPTED.ensures
-    ∙ batch_stops _ _ a.pieces i.i a.used _ _ c.loop-i-test.true (fits (goal.at.returns-then-done-ne-ACCEPTED c).At-loop-i) c.if-k-ge-SLOTS.false i.invariant.2 _ c.feed-done.ensures c.if-done-ne-ACCEPTED.true
+    ∙ batch_stops _ _ a.pieces i.i a.used _ _ c.loop-i-test.true (fits here.At-loop-i) c.if-k-ge-SLOTS.false i.invariant.2 _ c.feed-done.ensures c.if-done-ne-ACCEPTED.true
     ∙ i.invariant.3
 
 pub loop-i-preserved : goal.loop-i-preserved

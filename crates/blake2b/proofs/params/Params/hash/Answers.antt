@@ -42,16 +42,19 @@ taken c = c.update-taken.ensures ∙ ap (λ (s : State). updated s c.args.input.
 
 pub returns-then-taken-ne-ACCEPTED : goal.returns-then-taken-ne-ACCEPTED
 returns-then-taken-ne-ACCEPTED c =
+    let here = goal.at.returns-then-taken-ne-ACCEPTED c in
     let a = c.args in
-    hashed_past a.self (whole (goal.at.returns-then-taken-ne-ACCEPTED c).Start) (good (goal.at.returns-then-taken-ne-ACCEPTED c).Else-not-in_range) a.input.now (taken (goal.at.returns-then-taken-ne-ACCEPTED c).After-update-taken) c.if-taken-ne-ACCEPTED.true c.refused-then-taken-ne-ACCEPTED.ensures
+    hashed_past a.self (whole here.Start) (good here.Else-not-in_range) a.input.now (taken here.After-update-taken) c.if-taken-ne-ACCEPTED.true c.refused-then-taken-ne-ACCEPTED.ensures
 
 pub returns-then-self-gt0 : goal.returns-then-self-gt0
 returns-then-self-gt0 c =
+    let here = goal.at.returns-then-self-gt0 c in
     let a = c.args in
-    hashed_through a.self (whole (goal.at.returns-then-self-gt0 c).Start) (good (goal.at.returns-then-self-gt0 c).Else-not-in_range) a.input.now (taken (goal.at.returns-then-self-gt0 c).After-update-taken) c.if-taken-ne-ACCEPTED.false c.finalize.ensures
+    hashed_through a.self (whole here.Start) (good here.Else-not-in_range) a.input.now (taken here.After-update-taken) c.if-taken-ne-ACCEPTED.false c.finalize.ensures
 
 pub returns : goal.returns
 returns c =
+    let here = goal.at.returns c in
     let a = c.args in
-    hashed_straight a.self (whole (goal.at.returns c).Start) (good (goal.at.returns c).Else-not-in_range) a.input.now c.if-self-gt0.false (few (goal.at.returns c).Start) c.to_words-words.ensures c.last_node_of.ensures
+    hashed_straight a.self (whole here.Start) (good here.Else-not-in_range) a.input.now c.if-self-gt0.false (few here.Start) c.to_words-words.ensures c.last_node_of.ensures
     c.compress1_loop-run.ensures (c.from_state.ensures ∙ ap (λ (b : List ℕ). made_from b a.self.hash_length) c.write_words-bytes.ensures)

@@ -58,13 +58,14 @@ offset_slice_length c =
 
 pub take_long-requires : goal.take_long-requires
 take_long-requires c =
+    let here = goal.at.take_long-requires c in
     let b = c.compress_buffer-s in
     let f = c.fill_buf-full in
     let a = c.args in
-    let e = entry (goal.at.take_long-requires c).Start in
+    let e = entry here.Start in
     let l = offset_slice_length c in
-    let h = gone_held store machine lawful a.self a.input.now (sound_entry (goal.at.take_long-requires c).Start) e.more f.result f.ensures (sized_full (goal.at.take_long-requires c).After-fill_buf-full) b.result 1 b.ensures in
-    let k = gone_count store machine lawful a.self a.input.now (sound_entry (goal.at.take_long-requires c).Start) e.more f.result f.ensures (sized_full (goal.at.take_long-requires c).After-fill_buf-full) b.result 1 b.ensures in
+    let h = gone_held store machine lawful a.self a.input.now (sound_entry here.Start) e.more f.result f.ensures (sized_full here.After-fill_buf-full) b.result 1 b.ensures in
+    let k = gone_count store machine lawful a.self a.input.now (sound_entry here.Start) e.more f.result f.ensures (sized_full here.After-fill_buf-full) b.result 1 b.ensures in
     (h, omega (arith, e.small, e.more, e.rest))
 
 pub returns : goal.returns

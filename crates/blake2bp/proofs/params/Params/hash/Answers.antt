@@ -44,15 +44,18 @@ taken c = c.update-taken.ensures ∙ ap (λ (s : State). updated s c.args.input.
 
 pub returns-then-taken-ne-ACCEPTED : goal.returns-then-taken-ne-ACCEPTED
 returns-then-taken-ne-ACCEPTED c =
+    let here = goal.at.returns-then-taken-ne-ACCEPTED c in
     let a = c.args in
-    hashed_past a.self (kept (goal.at.returns-then-taken-ne-ACCEPTED c).Else-not-in_range) a.input.now (taken (goal.at.returns-then-taken-ne-ACCEPTED c).After-update-taken) c.if-taken-ne-ACCEPTED.true c.refused-then-taken-ne-ACCEPTED.ensures
+    hashed_past a.self (kept here.Else-not-in_range) a.input.now (taken here.After-update-taken) c.if-taken-ne-ACCEPTED.true c.refused-then-taken-ne-ACCEPTED.ensures
 
 pub returns-then-self-gt0 : goal.returns-then-self-gt0
 returns-then-self-gt0 c =
+    let here = goal.at.returns-then-self-gt0 c in
     let a = c.args in
-    hashed_through a.self (kept (goal.at.returns-then-self-gt0 c).Else-not-in_range) a.input.now (taken (goal.at.returns-then-self-gt0 c).After-update-taken) c.if-taken-ne-ACCEPTED.false c.finalize.ensures
+    hashed_through a.self (kept here.Else-not-in_range) a.input.now (taken here.After-update-taken) c.if-taken-ne-ACCEPTED.false c.finalize.ensures
 
 pub returns : goal.returns
 returns c =
+    let here = goal.at.returns c in
     let a = c.args in
-    hashed_straight a.self (kept (goal.at.returns c).Else-not-in_range) a.input.now c.if-self-gt0.false (few (goal.at.returns c).Start) c.leaf_words-start.ensures c.root_words-root.ensures c.finish_leaves-leaves.ensures c.finalize_root_words.ensures
+    hashed_straight a.self (kept here.Else-not-in_range) a.input.now c.if-self-gt0.false (few here.Start) c.leaf_words-start.ensures c.root_words-root.ensures c.finish_leaves-leaves.ensures c.finalize_root_words.ensures

@@ -18,8 +18,9 @@ slice_bounds-padded_block-end c = let l = whole (goal.at.slice_bounds-padded_blo
 
 pub returns-then-self-gt0 : goal.returns-then-self-gt0
 returns-then-self-gt0 c =
+    let here = goal.at.returns-then-self-gt0 c in
     let p = c.args.self in
-    fresh_keyed p (whole (goal.at.returns-then-self-gt0 c).Start) c.requires c.leaf_words-leaves.ensures c.root_words-root.ensures c.if-self-gt0.true (rw (sub-zero p.key_length) at c.padded_block.ensures) c.key_row-buf.ensures
+    fresh_keyed p (whole here.Start) c.requires c.leaf_words-leaves.ensures c.root_words-root.ensures c.if-self-gt0.true (rw (sub-zero p.key_length) at c.padded_block.ensures) c.key_row-buf.ensures
 
 pub returns : goal.returns
 returns c =

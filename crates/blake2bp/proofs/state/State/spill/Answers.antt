@@ -54,25 +54,27 @@ compress_both-s-requires c = full (goal.at.compress_both-s-requires c).After-fil
 
 pub take_long-requires : goal.take_long-requires
 take_long-requires c =
+    let here = goal.at.take_long-requires c in
     let b = c.compress_both-s in
     let s = c in
     let a = s.args in
-    let e = entry (goal.at.take_long-requires c).Start in
-    let h = gone_held store machine lawful a.self a.input.now (sound (goal.at.take_long-requires c).Start) e.more c.fill_buf-full.result (filled (goal.at.take_long-requires c).After-fill_buf-full) (sized_full (goal.at.take_long-requires c).After-fill_buf-full) b.result 2 b.ensures in
-    let k = gone_count store machine lawful a.self a.input.now (sound (goal.at.take_long-requires c).Start) e.more c.fill_buf-full.result (filled (goal.at.take_long-requires c).After-fill_buf-full) (sized_full (goal.at.take_long-requires c).After-fill_buf-full) b.result 2 b.ensures in
+    let e = entry here.Start in
+    let h = gone_held store machine lawful a.self a.input.now (sound here.Start) e.more c.fill_buf-full.result (filled here.After-fill_buf-full) (sized_full here.After-fill_buf-full) b.result 2 b.ensures in
+    let k = gone_count store machine lawful a.self a.input.now (sound here.Start) e.more c.fill_buf-full.result (filled here.After-fill_buf-full) (sized_full here.After-fill_buf-full) b.result 2 b.ensures in
     let l = ap length c.offset_slice.ensures ∙ length-drop (roombytes - a.self.buf_len) a.input.now in
     (h, omega (arith, e.small, e.more, e.rest, e.held))
 
 pub returns-then-coming-gt-NEED : goal.returns-then-coming-gt-NEED
 returns-then-coming-gt-NEED c =
+    let here = goal.at.returns-then-coming-gt-NEED c in
     let b = c.compress_both-s in
     let s = c in
     let a = s.args in
-    let e = entry (goal.at.returns-then-coming-gt-NEED c).Start in
+    let e = entry here.Start in
     let room = roombytes - a.self.buf_len in
     let x = drop room a.input.now in
     let l = length-drop room a.input.now in
-    spill_is store machine lawful a.self a.input.now (sound (goal.at.returns-then-coming-gt-NEED c).Start) e.more c.fill_buf-full.result (filled (goal.at.returns-then-coming-gt-NEED c).After-fill_buf-full) (sized_full (goal.at.returns-then-coming-gt-NEED c).After-fill_buf-full) b.result 2 b.ensures
+    spill_is store machine lawful a.self a.input.now (sound here.Start) e.more c.fill_buf-full.result (filled here.After-fill_buf-full) (sized_full here.After-fill_buf-full) b.result 2 b.ensures
     c.take_long.result (spare rowbytes needbytes (length x)) (rw c.offset_slice.ensures at c.take_long.ensures) (omega arith)
     (spare_both rowbytes needbytes (omega arith) (omega arith) a.self.buf_len (length a.input.now) (length x) e.held e.rest l (rw l c.if-coming-gt-NEED.true))
 
@@ -81,22 +83,24 @@ compress_half-s-requires c = full (goal.at.compress_half-s-requires c).After-fil
 
 pub fill_buf-requires : goal.fill_buf-requires
 fill_buf-requires c =
+    let here = goal.at.fill_buf-requires c in
     let b = c.compress_half-s in
     let s = c in
     let a = s.args in
-    let e = entry (goal.at.fill_buf-requires c).Start in
-    let h = gone_held store machine lawful a.self a.input.now (sound (goal.at.fill_buf-requires c).Start) e.more c.fill_buf-full.result (filled (goal.at.fill_buf-requires c).After-fill_buf-full) (sized_full (goal.at.fill_buf-requires c).After-fill_buf-full) b.result 1 b.ensures in
+    let e = entry here.Start in
+    let h = gone_held store machine lawful a.self a.input.now (sound here.Start) e.more c.fill_buf-full.result (filled here.After-fill_buf-full) (sized_full here.After-fill_buf-full) b.result 1 b.ensures in
     let l = ap length c.offset_slice-2.ensures ∙ length-drop (roombytes - a.self.buf_len) a.input.now in
     omega (arith, c.if-coming-gt-NEED.false)
 
 pub returns : goal.returns
 returns c =
+    let here = goal.at.returns c in
     let b = c.compress_half-s in
     let s = c in
     let a = s.args in
-    let e = entry (goal.at.returns c).Start in
+    let e = entry here.Start in
     let n = length a.input.now in
     let left = n - (roombytes - a.self.buf_len) in
-    spill_is store machine lawful a.self a.input.now (sound (goal.at.returns c).Start) e.more c.fill_buf-full.result (filled (goal.at.returns c).After-fill_buf-full) (sized_full (goal.at.returns c).After-fill_buf-full) b.result 1 b.ensures
+    spill_is store machine lawful a.self a.input.now (sound here.Start) e.more c.fill_buf-full.result (filled here.After-fill_buf-full) (sized_full here.After-fill_buf-full) b.result 1 b.ensures
     c.fill_buf.result 0 (rw c.offset_slice-2.ensures at c.fill_buf.ensures) (omega arith)
     (spare_half rowbytes needbytes (omega arith) (omega arith) a.self.buf_len n left e.held e.rest refl (omega (arith, e.more, e.held)) c.if-coming-gt-NEED.false)

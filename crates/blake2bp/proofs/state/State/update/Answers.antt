@@ -81,11 +81,12 @@ fill_buf-state-requires c = let r = ranged (goal.at.fill_buf-state-requires c).E
 
 pub returns-then-n-held : goal.returns-then-n-held
 returns-then-n-held c =
+    let here = goal.at.returns-then-n-held c in
     let i = c in
     let a = i.args in
-    let r = ranged (goal.at.returns-then-n-held c).Else-not-range_of in
+    let r = ranged here.Else-not-range_of in
     let fits : a.self.buf_len + length a.input.now ≤ roombytes = omega (arith, r.held, c.if-n-held.true) in
-    taken (goal.at.returns-then-n-held c).Else-n-left (taken_fill keeper keeper_laws a.self a.input.now (sound (goal.at.returns-then-n-held c).Else-not-range_of) (omega (arith, c.if-held-eq0.false)) fits c.fill_buf-state.ensures)
+    taken here.Else-n-left (taken_fill keeper keeper_laws a.self a.input.now (sound here.Else-not-range_of) (omega (arith, c.if-held-eq0.false)) fits c.fill_buf-state.ensures)
 
 pub spill-state-requires : goal.spill-state-requires
 spill-state-requires c =
@@ -94,7 +95,8 @@ spill-state-requires c =
 
 pub returns : goal.returns
 returns c =
+    let here = goal.at.returns c in
     let i = c in
     let a = i.args in
-    let r = ranged (goal.at.returns c).Else-not-range_of in
-    taken (goal.at.returns c).Else-n-left (taken_spill keeper keeper_laws a.self a.input.now (sound (goal.at.returns c).Else-not-range_of) (omega (arith, r.held, c.if-n-held.false)) c.spill-state.ensures)
+    let r = ranged here.Else-not-range_of in
+    taken here.Else-n-left (taken_spill keeper keeper_laws a.self a.input.now (sound here.Else-not-range_of) (omega (arith, r.held, c.if-n-held.false)) c.spill-state.ensures)

@@ -22,4 +22,5 @@ returns-then-not-self c =
 
 pub returns : goal.returns
 returns c =
-    hash_finished c.args.self c.args.length c.in_range.ensures (ap not c.if-not-in_range.false) c.if-not-self.false (state_long (goal.at.returns c).After-write_words-bytes) c.write_words-bytes.ensures c.from_state.ensures
+    let here = goal.at.returns c in
+    hash_finished c.args.self c.args.length c.in_range.ensures (ap not c.if-not-in_range.false) c.if-not-self.false (state_long here.After-write_words-bytes) c.write_words-bytes.ensures c.from_state.ensures

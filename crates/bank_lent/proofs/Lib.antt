@@ -1,4 +1,5 @@
 pub mod Both
 pub mod Copies
 pub mod Fronts
+pub mod Lending
 pub mod Unique

@@ -1,36 +1,16 @@
 -- `hash::Hash::written_hex` meets its contract.
 -- Assumes nothing.
-use mathlib.Core.Path.{◌≡◌, sym, ap, ◌∙◌}
-use mathlib.Core.Bool.{true}
-use Prim.Native.Nat.{ℕ, ◌*◌}
-use borrow.Author.Rules.{rules}
+use mathlib.Core.Path.{sym, ◌∙◌}
 use lib.ListN.{length}
-use Rattle.hash.specs.Sizes.{longest}
-use Rattle.hash.specs.Hash.{hash_in_range, digest_of, hex_of}
-use Rattle.hash.specs.Output.{wrote_part}
-use Rattle.hash.proofs.Digests.{length_hex, length_digest}
+use Rattle.hash.specs.Hash.{digest_of, hex_of}
+use Rattle.hash.proofs.Digests.{length_hex}
 use Rattle.hash.proofs.Outputs.{part_bad, part_good}
 use Rattle.hash.proofs.Hash.written_hex.Goals as goal
-use Rattle.hash.proofs.Hash.written_hex.Goals.{Else-not-in_range, Start}
 
-sized : (c : Start) → length c.args.self.bytes ≡ longest
-sized c = search rules
+pub returns-in-Ok : goal.returns-in-Ok
+returns-in-Ok c =
+    let d = c.in-Ok.ensures in
+    rw (length_hex (digest_of c.args.self)) ((rw d.1 at c.written.ensures) ∙ sym (part_good c.args.self d.0 _ c.args.out.now))
 
-good : (c : Else-not-in_range) → hash_in_range c.before.before.before.args.self ≡ true
-good c = sym c.before.in_range.ensures ∙ c.if-not-in_range.false
-
-pub returns-then-not-in_range : goal.returns-then-not-in_range
-returns-then-not-in_range c =
-    let t = c.before in
-    let a = t.before.before.before.args in
-    part_bad a.self (sym t.before.in_range.ensures ∙ t.if-not-in_range.true) (length (hex_of (digest_of a.self))) a.out.now
-
-pub returns : goal.returns
-returns c =
-    let e = c.before.before in
-    let s = e.before.before.before in
-    let h = s.args.self in
-    let n = ap (λ (k : ℕ). 2 * k) (sym (length_digest h (sized (goal.at.returns c).Start) (good (goal.at.returns c).Else-not-in_range))) ∙ sym (length_hex (digest_of h)) in
-    c.written.ensures
-    ∙ ap (λ (k : ℕ). wrote_part k s.args.out.now) n
-    ∙ sym (part_good h (good (goal.at.returns c).Else-not-in_range) (length (hex_of (digest_of h))) s.args.out.now)
+pub returns-in-Err : goal.returns-in-Err
+returns-in-Err c = part_bad c.args.self c.in-Err.ensures.0 (length (hex_of (digest_of c.args.self))) c.args.out.now

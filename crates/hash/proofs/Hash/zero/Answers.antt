@@ -1,6 +1,9 @@
 -- `hash::Hash::zero` meets its contract.
 -- Assumes nothing.
+use mathlib.Core.Path.{refl}
+use Rattle.laws_words.specs.Bytes.{zeros}
 use Rattle.hash.proofs.Hash.zero.Goals as goal
 
 pub returns : goal.returns
-returns c = rw c.zero_bytes-bytes.ensures
+unfolding zeros
+returns c = refl

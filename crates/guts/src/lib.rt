@@ -9,12 +9,20 @@ ghost use Rattle.std.specs.Prelude.{◌≡◌, length, drop};
 ghost use Rattle.laws_blocks.specs.Offsets.{padded_buffer, final_block};
 ghost use Rattle.guts.specs.Guts.{finalizes, is_last_node, final_facts};
 
-pub use storing::{clear, store};
+pub use storing::{clear, padded, store, zeroed};
 
 #[derive(Clone, Copy)]
 pub enum Finalize {
     Yes,
     No,
+}
+
+impl From<bool> for Finalize {
+    ghost from_gives = { λ yes made. finalizes made ≡ yes };
+
+    fn from(yes: bool) -> Self {
+        if yes { Finalize::Yes } else { Finalize::No }
+    }
 }
 
 impl Finalize {
@@ -32,6 +40,14 @@ impl Finalize {
 pub enum LastNode {
     Yes,
     No,
+}
+
+impl From<bool> for LastNode {
+    ghost from_gives = { λ yes made. is_last_node made ≡ yes };
+
+    fn from(yes: bool) -> Self {
+        if yes { LastNode::Yes } else { LastNode::No }
+    }
 }
 
 impl LastNode {

@@ -16,7 +16,7 @@ use Rattle.laws_words.proofs.Bytes.{pad_whole}
 use Rattle.refusals.specs.Numbers.{accepted, digest_length}
 use Rattle.refusals.proofs.Lengths.{length_is, length_bounds}
 use Rattle.hash.specs.Sizes.{longest, longest_hex}
-use Rattle.hash.specs.Hash.{is_digest_length, hash_in_range, hash_of, digest_of, zero_hash, no_hash, made_from, length_answered, same_bytes, compared, hex_of}
+use Rattle.hash.specs.Hash.{is_digest_length, hash_in_range, hash_of, digest_of, zero_hash, no_hash, made_from, length_answered, same_bytes, hex_of}
 use Rattle.hash.specs.declared.Hash.{Hash}
 use Rattle.hash.specs.Answers.{HashAnswer}
 
@@ -103,10 +103,6 @@ module _ (h : Hash) where
   pub length_known : hash_in_range h ≡ true → record { number = accepted; length = h.len } ≡ length_answered h
   unfolding length_answered
   length_known e = rw e
-
-  pub compared_known : (other : List ℕ) → hash_in_range h ≡ true → record { number = accepted; equal = same_bytes (digest_of h) other } ≡ compared h true other
-  unfolding compared
-  compared_known other e = rw e
 
   -- a record in range has as many bytes as it says
   module _ (l : length h.bytes ≡ longest) (e : hash_in_range h ≡ true) where

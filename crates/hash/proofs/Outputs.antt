@@ -2,15 +2,14 @@
 -- Assumes nothing.
 use mathlib.Core.Path.{◌≡◌, refl, sym, ap, ◌∙◌}
 use mathlib.Core.Bool.{Bool, true, false}
-use mathlib.Core.List.{List, []}
+use mathlib.Core.List.{List}
 use Prim.Native.Nat.{ℕ, ◌≤◌}
 use native.Mathlib.Omega.{arith}
 use borrow.Author.Tests.{le-leb, leb-true}
 use lib.Dec.{leb}
 use lib.ListN.{length, drop, length-append, length-drop}
-use lib.Seq.{paste, take-append_seam, drop-append_seam}
+use lib.Seq.{take-append_seam, drop-append_seam}
 use Rattle.laws_words.specs.Bytes.{over}
-use Rattle.laws_words.proofs.Stores.{paste_front}
 use Rattle.refusals.specs.Numbers.{accepted}
 use Rattle.hash.specs.Sizes.{longest}
 use Rattle.hash.specs.Hash.{hash_in_range, hash_of, digest_of, written_answered, written_over, written_part}
@@ -38,9 +37,6 @@ module _ (text out : List ℕ) {a : LengthAnswer} (e : a ≡ wrote (length text)
   pub text_fits : a.number ≡ accepted → length text ≤ length out
   text_fits f = leb-true (length text) (length out) (enough f)
 
-  pub text_there : a.number ≡ accepted → {now : List ℕ} → now ≡ paste out 0 text (length text) → now ≡ wrote_over text out
-  text_there f p = rw (enough f) (p ∙ paste_front out text)
-
   -- after an accepted write the part that is handed back is the text, and what lies behind it is as it was
   handed_back : a.number ≡ accepted → wrote_part (length text) (wrote_over text out) ≡ text
   unfolding over
@@ -55,11 +51,6 @@ module _ (text out : List ℕ) {a : LengthAnswer} (e : a ≡ wrote (length text)
 
 -- a text of a digest, its bytes or their hexadecimal
 module _ (h : Hash) where
-  module _ (bad : hash_in_range h ≡ false) where
-    pub part_bad : (n : ℕ) (out : List ℕ) → [] ≡ written_part h n out
-    unfolding written_part
-    part_bad n out = rw bad
-
   module _ (good : hash_in_range h ≡ true) where
     pub answered_good : (n room : ℕ) → written_answered h n room ≡ wrote n room
     unfolding written_answered
@@ -72,11 +63,6 @@ module _ (h : Hash) where
     pub part_good : (n : ℕ) (out : List ℕ) → written_part h n out ≡ wrote_part n out
     unfolding written_part
     part_good n out = rw good
-
-    pub written_good : (text out : List ℕ) {a : LengthAnswer} {after : List ℕ}
-        → (a ≡ wrote (length text) (length out)) × (after ≡ wrote_over text out)
-        → (a ≡ written_answered h (length text) (length out)) × (after ≡ written_over h text out)
-    written_good text out w = (w.0 ∙ sym (answered_good (length text) (length out)), w.1 ∙ sym (over_good text out))
 
   module _ (text out : List ℕ) {a : LengthAnswer} (e : a ≡ written_answered h (length text) (length out)) (f : a.number ≡ accepted) where
     good : hash_in_range h ≡ true

@@ -4,6 +4,7 @@ ghost use Rattle.laws_words.specs.Bytes.{over};
 ghost use Rattle.hash.specs.Hash.{digit_of, hex_of};
 
 // A lower-case hexadecimal digit.
+#[tactic(auto, unfolding(crate::specs::Hash::digit_of))]
 fn digit(n: u8) -> u8
     requires { n < 16 }
     ensures { result ≡ digit_of n }

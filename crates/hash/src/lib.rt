@@ -35,6 +35,7 @@ pub fn is_digest_length(n: usize) -> bool
 
 impl Hash {
     // A record that is out of range: every call on it is refused.
+    #[tactic(auto, unfolding(laws_words::specs::Bytes::zeros))]
     pub fn zero() -> Self
         ensures { result ≡ zero_hash }
     {
@@ -45,6 +46,7 @@ impl Hash {
     }
 
     // The first `length` of a state's bytes, which are as many as its width has.
+    #[tactic(auto, using(crate::proofs::Digests::not_made, crate::proofs::Digests::not_there))]
     pub fn from_state(state: &[u8], length: usize) -> Result<Self, Refusal>
         ensures { as_hash_answer result ≡ made_from state.now length }
     {
@@ -60,6 +62,7 @@ impl Hash {
     }
 
     // A digest of 64 bytes.
+    #[tactic(auto, using(crate::proofs::Digests::whole_hash))]
     pub fn from_bytes(bytes: [u8; OUTBYTES]) -> Self
         ensures { result ≡ hash_of bytes }
     {
@@ -70,6 +73,7 @@ impl Hash {
     }
 
     // Whether the record keeps its stated range.
+    #[tactic(auto, unfolding(crate::specs::Hash::hash_in_range))]
     pub fn in_range(self) -> bool
         ensures { result ≡ hash_in_range self }
     {
@@ -77,6 +81,7 @@ impl Hash {
     }
 
     // The bytes of a record that is in range.
+    #[tactic(auto, using(crate::proofs::Digests::digest_length_bounds), unfolding(crate::specs::Hash::hash_in_range))]
     fn digest(&self) -> Result<&[u8], Refusal>
         ensures { MatchResult result (λ d. (hash_in_range self.now ≡ true) × (d.now ≡ digest_of self.now)) (λ e. (hash_in_range self.now ≡ false) × (e ≡ Record)) }
     {
@@ -86,6 +91,7 @@ impl Hash {
         Err(Refusal::Record)
     }
 
+    #[tactic(auto, using(crate::proofs::Digests::length_digest), unfolding(crate::specs::Hash::length_answered))]
     pub fn len(self) -> Result<usize, Refusal>
         ensures { as_length_answer result ≡ length_answered self }
     {

@@ -17,6 +17,7 @@ fn room_for(n: usize, room: usize) -> Result<usize, Refusal>
     Ok(n)
 }
 
+#[tactic(auto, using(laws_words::proofs::Stores::paste_front))]
 pub fn write(text: &[u8], out: &mut [u8]) -> Result<usize, Refusal>
     ensures { (as_length_answer result ≡ wrote (length text.now) (length out.old)) × (out.new ≡ wrote_over text.now out.old) }
 {

@@ -11,6 +11,7 @@ use refusals::Refusal;
 
 impl Hash {
     // The digest's bytes, to the front of the output.
+    #[tactic(auto, unfolding(crate::specs::Hash::written_answered, crate::specs::Hash::written_over))]
     pub fn write_bytes(self, out: &mut [u8]) -> Result<usize, Refusal>
         ensures { (as_length_answer result ≡ written_answered self (length (digest_of self)) (length out.old))
             × (out.new ≡ written_over self (digest_of self) out.old) }
@@ -19,6 +20,7 @@ impl Hash {
     }
 
     // The digest in lower-case hexadecimal, to the front of the output.
+    #[tactic(auto, using(crate::proofs::Digests::hex_front), unfolding(crate::specs::Hash::written_answered, crate::specs::Hash::written_over))]
     pub fn write_hex(self, out: &mut [u8]) -> Result<usize, Refusal>
         ensures { (as_length_answer result ≡ written_answered self (length (hex_of (digest_of self))) (length out.old))
             × (out.new ≡ written_over self (hex_of (digest_of self)) out.old) }
@@ -31,6 +33,7 @@ impl Hash {
     }
 
     // The part of an output that write_bytes wrote: nothing where it was refused.
+    #[tactic(auto, unfolding(crate::specs::Hash::written_part))]
     pub fn written_bytes<'a>(self, out: &'a [u8]) -> &'a [u8]
         ensures { result.now ≡ written_part self (length (digest_of self)) out.now }
     {
@@ -41,6 +44,7 @@ impl Hash {
     }
 
     // The part of an output that write_hex wrote: nothing where it was refused.
+    #[tactic(auto, using(crate::proofs::Digests::length_hex), unfolding(crate::specs::Hash::written_part))]
     pub fn written_hex<'a>(self, out: &'a [u8]) -> &'a [u8]
         ensures { result.now ≡ written_part self (length (hex_of (digest_of self))) out.now }
     {

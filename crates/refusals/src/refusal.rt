@@ -1,7 +1,8 @@
 // Why a call is refused: an error for each of document 01's numbers, in its order.
 // A batch's refusal says as well which record or job it is.
-ghost use Rattle.std.specs.Prelude.{◌≡◌};
+ghost use Rattle.std.specs.Prelude.{◌≡◌, Some};
 ghost use Rattle.refusals.specs.Answers.{number_of};
+ghost use Rattle.refusals.specs.Texts.{text_of, batch_text_of};
 
 use std::error::Error;
 use std::fmt;
@@ -49,6 +50,8 @@ impl Refusal {
 }
 
 impl fmt::Display for Refusal {
+    ghost output = { λ e. Some (text_of e) };
+
     fn fmt<W: fmt::Write>(&self, f: &mut fmt::Formatter<W>) -> fmt::Result {
         f.write_str(match self {
             Refusal::DigestLength => "the digest length is 0 or over 64",
@@ -79,6 +82,8 @@ pub struct BatchRefusal {
 }
 
 impl fmt::Display for BatchRefusal {
+    ghost output = { λ e. Some (batch_text_of e) };
+
     fn fmt<W: fmt::Write>(&self, f: &mut fmt::Formatter<W>) -> fmt::Result {
         write!(f, "{} at index {}", self.refusal, self.index)
     }

@@ -89,7 +89,11 @@ pub fn final_block<'a>(input: &'a [u8], offset: usize, buffer: &'a [u8]) -> &'a 
     ensures { result.now ≡ final_block (length buffer.now) input.now offset buffer.now }
 {
     let rest = offset_slice(input, offset);
-    rest.get(..buffer.len()).unwrap_or(buffer)
+    if rest.len() < buffer.len() {
+        buffer
+    } else {
+        &rest[..buffer.len()]
+    }
 }
 
 // Of the block at an offset: how many of its bytes are the input's, and whether the input ends before the next one.

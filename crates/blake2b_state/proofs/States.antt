@@ -60,6 +60,7 @@ pub kept : (s : State) → state_in_range s ≡ true → Kept keeper s
 kept s = in_range_lem bounds s.hash_length s.buflen s.count s.is_keyed
 
 -- a state begins where a digest may have the length
-pub begins : (words : List ℕ) (n : ℕ) (up keyed : Bool) (block : List ℕ) → is_digest_length n ≡ true → (beginning words n up keyed block).state ≡ begun words n up keyed block
+pub begins : (words : List ℕ) (n : ℕ) (up keyed : Bool) (block : List ℕ) → is_digest_length n ≡ true
+    → beginning words n up keyed block ≡ record { number = accepted; state = begun words n up keyed block }
 unfolding beginning
 begins words n up keyed block e = rw e

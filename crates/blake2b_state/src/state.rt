@@ -68,7 +68,7 @@ impl State {
         hash_length: u8,
         last_node: bool,
         key_block: Option<[u8; 128]>,
-    ) -> Result<State, Refusal>
+    ) -> Result<Self, Refusal>
         ensures { as_state_answer zero_state result ≡ beginning words hash_length last_node (is_some key_block) (unwrap_or key_block []) }
     {
         if !is_digest_length(hash_length as usize) {
@@ -136,14 +136,18 @@ impl State {
     }
 
     // The input fits the buffer.
-    fn fill_buf(mut self, input: &[u8]) -> Self
+    fn fill_buf(self, input: &[u8]) -> Self
         requires { self.buflen + length input.now ≤ 128 }
         ensures { result ≡ moved self (pending self ++ input.now) 0 }
     {
         let held = self.buflen;
-        store(&mut self.buf, held, input);
-        self.buflen = held + input.len();
-        self
+        let mut buf = self.buf;
+        store(&mut buf, held, input);
+        State {
+            buf,
+            buflen: held + input.len(),
+            ..self
+        }
     }
 
     // The buffer is full, and more is to come.
@@ -201,7 +205,7 @@ impl State {
     }
 
     #[tactic(auto, using(crate::proofs::Exits::handed_on), unfolding(crate::specs::State::updated))]
-    pub fn update(self, input: &[u8]) -> Result<State, Refusal>
+    pub fn update(self, input: &[u8]) -> Result<Self, Refusal>
         ensures { as_state_answer self result ≡ updated self input.now }
     {
         self.check()?;
@@ -236,7 +240,7 @@ impl State {
     }
 
     #[tactic(auto, using(crate::proofs::Exits::handed_on), unfolding(crate::specs::State::last_node_set))]
-    pub fn set_last_node(self, last_node: bool) -> Result<State, Refusal>
+    pub fn set_last_node(self, last_node: bool) -> Result<Self, Refusal>
         ensures { as_state_answer self result ≡ last_node_set self last_node }
     {
         self.check()?;

@@ -1,6 +1,7 @@
 // The parameters: the defaults, a setter for each, the words that a hash starts from, and the state that starts from them.
 // A setter overwrites its whole field, so that nothing of an older value stays.
-ghost use Rattle.std.specs.Prelude.{◌≡◌, true, false, leb, length, [], ◌∷◌, MatchResult};
+ghost use Rattle.std.specs.Prelude.{◌≡◌, ◌<◌, ◌≤◌, true, false, leb, length, [], ◌∷◌, MatchResult};
+ghost use Rattle.definitions.specs.Words.{pad};
 ghost use Rattle.definitions.specs.Family.{BLAKE2b};
 ghost use Rattle.definitions.specs.Hash.{start};
 ghost use Rattle.refusals.specs.declared.refusal.Refusal.TheVariants.{Record};
@@ -34,6 +35,17 @@ pub struct Params {
     pub(crate) node_depth: u8,
     pub(crate) inner_hash_length: u8,
     pub(crate) last_node: bool,
+}
+
+// A field of what is given and zeros behind it: refused where that is longer than it may be.
+fn field<const N: usize>(given: &[u8], most: usize, refusal: Refusal) -> Result<[u8; N], Refusal>
+    requires { most ≤ N }
+    ensures { MatchResult result (λ f. (length given.now ≤ most) × (f ≡ pad N given.now)) (λ e. (e ≡ refusal) × (most < length given.now)) }
+{
+    if given.len() > most {
+        return Err(refusal);
+    }
+    Ok(padded(given))
 }
 
 impl Params {
@@ -105,12 +117,10 @@ impl Params {
         ensures { as_params_answer self result ≡ answered self (test (leb (length key.now) 64) key_length ∷ []) (with_key key.now self) }
     {
         self.check()?;
-        if key.len() > Params::KEYBYTES {
-            return Err(Refusal::KeyLength);
-        }
+        let key_block = field(key, Params::KEYBYTES, Refusal::KeyLength)?;
         Ok(Params {
             key_length: key.len() as u8,
-            key_block: padded(key),
+            key_block,
             ..self
         })
     }
@@ -119,26 +129,20 @@ impl Params {
         ensures { as_params_answer self result ≡ answered self (test (leb (length salt.now) 16) salt_length ∷ []) (with_salt salt.now self) }
     {
         self.check()?;
-        if salt.len() > Params::SALTBYTES {
-            return Err(Refusal::SaltLength);
-        }
-        Ok(Params {
-            salt: padded(salt),
-            ..self
-        })
+        let salt = field(salt, Params::SALTBYTES, Refusal::SaltLength)?;
+        Ok(Params { salt, ..self })
     }
 
     pub fn personal(self, personalization: &[u8]) -> Result<Self, Refusal>
         ensures { as_params_answer self result ≡ answered self (test (leb (length personalization.now) 16) personal_length ∷ []) (with_personal personalization.now self) }
     {
         self.check()?;
-        if personalization.len() > Params::PERSONALBYTES {
-            return Err(Refusal::PersonalLength);
-        }
-        Ok(Params {
-            personal: padded(personalization),
-            ..self
-        })
+        let personal = field(
+            personalization,
+            Params::PERSONALBYTES,
+            Refusal::PersonalLength,
+        )?;
+        Ok(Params { personal, ..self })
     }
 
     pub fn fanout(self, fanout: u8) -> Result<Self, Refusal>

@@ -11,10 +11,12 @@ use borrow.Author.Tests.{le-leb, lt-leb, eq-eqb, ne_eqb, eqb-true, eqb-false}
 use lib.Dec.{eqb}
 use lib.ListN.{length, get_or, take, drop, set, length-take}
 use lib.Seq.{drop-cons, get_or-take}
-use Rattle.std.specs.Prelude.{Ok, Err}
+use Rattle.std.specs.Prelude.{Result, Ok, Err}
+use Rattle.std.specs.Result.{MatchResult, IsErrAnd}
+use Rattle.std.proofs.lemmas.Result.{err_from_is_err_and}
 use Rattle.std.proofs.Math.ListN.{drop_of_length-le}
 use Rattle.refusals.specs.Numbers.{accepted, batch_long}
-use Rattle.refusals.specs.Answers.{number_of}
+use Rattle.refusals.specs.Answers.{number_of, number_in}
 use Rattle.refusals.specs.declared.refusal.Refusal.{Refusal}
 use Rattle.refusals.proofs.Settled.{never_accepted}
 use Rattle.refusals.specs.declared.refusal.BatchRefusal.{BatchRefusal}
@@ -67,6 +69,21 @@ module _ (n : ℕ) where
 
   pub first_accepted : (i : ℕ) (js : List HashManyJob) → (first_bad n i js).number ≡ accepted → first_bad n i js ≡ record { number = accepted; index = 0 }
   first_accepted i js e = none_bad i js (each_accepted i js e)
+
+-- the answer of a check, with the index beside a refusal
+abbrev pub Told : Result (Unit {0}) Refusal → Result (Unit {0}) BatchRefusal → ℕ → Type 0
+Told r m i = MatchResult r (λ x. m ≡ Ok x) (λ e. IsErrAnd m (λ q. q ≡ record { refusal = e; index = i }))
+
+pub told_good : (r : Result (Unit {0}) Refusal) (m : Result (Unit {0}) BatchRefusal) (i : ℕ) → Told r m i → {x : Unit {0}} → m ≡ Ok x → accepted ≡ number_in r
+told_good (Ok x) m i t e = refl
+told_good (Err d) m i t e = let p = err_from_is_err_and m t in cc
+
+pub told_bad : (r : Result (Unit {0}) Refusal) (m : Result (Unit {0}) BatchRefusal) (i : ℕ) → Told r m i → {q : BatchRefusal} → m ≡ Err q → (number_of q.refusal ≡ number_in r) × (q.index ≡ i)
+told_bad (Ok x) m i t e = cc
+told_bad (Err d) m i t {q} e =
+    let p = err_from_is_err_and m t in
+    let same : q ≡ record { refusal = d; index = i } = cc in
+    (ap (λ (b : BatchRefusal). number_of b.refusal) same, ap (λ (b : BatchRefusal). b.index) same)
 
 -- a used job of a batch in which none is bad
 pub used_accepted : (n : ℕ) (jobs : List HashManyJob) (used : ℕ) → (first_bad n 0 (take used jobs)).number ≡ accepted → (i : ℕ) (z : HashManyJob) → i < used → i < length jobs

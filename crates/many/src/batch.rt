@@ -17,9 +17,8 @@ fn check_jobs(jobs: &[HashManyJob], data_length: usize) -> Result<(), BatchRefus
     ensures { as_first_bad result ≡ first_bad data_length 0 jobs.now }
 {
     for (index, job) in jobs.iter().enumerate() {
-        if let Err(refusal) = job.check(data_length) {
-            return Err(BatchRefusal { refusal, index });
-        }
+        job.check(data_length)
+            .map_err(|refusal| BatchRefusal { refusal, index })?;
     }
     Ok(())
 }

@@ -12,7 +12,11 @@ use refusals::LIMIT;
 fn key_bytes(params: Params) -> u64
     ensures { result ≡ key_bytes params }
 {
-    if params.is_keyed() { 128 } else { 0 }
+    if params.is_keyed() {
+        Params::BLOCKBYTES as u64
+    } else {
+        0
+    }
 }
 
 // Whether the key block and so many bytes stay within the limit of a total.

@@ -6,4 +6,4 @@ use Rattle.many.specs.Batch.{first_bad}
 use Rattle.many.proofs.batch.check_jobs.Given as goal
 
 abbrev pub invariant-loop-index : goal.invariant-loop-index
-invariant-loop-index l = first_bad l.data_length l.index (drop l.index l.jobs) ≡ first_bad l.data_length 0 l.jobs
+invariant-loop-index l = first_bad l.data_length l.index-counter (drop l.index-counter l.jobs) ≡ first_bad l.data_length 0 l.jobs

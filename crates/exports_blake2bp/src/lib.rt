@@ -13,6 +13,8 @@ use blake2bp::blake2bp;
 pub extern "C" fn sumpillow_blake2bp(input: &[u8], out: &mut [u8]) -> u8
     ensures { (result ≡ (wrote 64 (length out.old)).number) × (out.new ≡ wrote_over (BLAKE2bp 64 [] input.now) out.old) }
 {
-    let written = blake2bp(input).write_bytes(out);
-    written.number
+    match blake2bp(input).write_bytes(out) {
+        Ok(_) => 0,
+        Err(refusal) => refusal.number(),
+    }
 }

@@ -40,7 +40,7 @@ module _ (f : Family) where
       by_front 16 (diagonals_of f x) v l
       (λ i. e0 i ! 0 ∷ e1 i ! 0 ∷ e2 i ! 0 ∷ e3 i ! 0 ∷ e3 i ! 1 ∷ e0 i ! 1 ∷ e1 i ! 1 ∷ e2 i ! 1 ∷ e2 i ! 2 ∷ e3 i ! 2 ∷ e0 i ! 2 ∷ e1 i ! 2 ∷ e1 i ! 3 ∷ e2 i ! 3 ∷ e3 i ! 3 ∷ e0 i ! 3 ∷ [])
 
-  round_is : (s m v : List ℕ) → diagonals_of f (ordered m s) (columns_of f (ordered m s) v) ≡ round f s m v
+  pub round_is : (s m v : List ℕ) → diagonals_of f (ordered m s) (columns_of f (ordered m s) v) ≡ round f s m v
   unfolding round columns_of diagonals_of ordered
   round_is s m v = refl
 

@@ -6,10 +6,10 @@ use Rattle.definitions.specs.Family.{BLAKE2b}
 use Rattle.laws_blocks.proofs.Turns.{Reached}
 use Rattle.portable.proofs.blocks.compress1_loop.Given as goal
 
-abbrev pub invariant-loop-padded : goal.invariant-loop-padded
-invariant-loop-padded l =
+abbrev pub invariant-loop-local_words : goal.invariant-loop-local_words
+invariant-loop-local_words l =
     Reached BLAKE2b l.input l.row l.padded l.count l.initial.local_words l.local_words l.local_count l.offset
 
-abbrev pub decreases-loop-padded : goal.decreases-loop-padded
-decreases-loop-padded l =
+abbrev pub decreases-loop-local_words : goal.decreases-loop-local_words
+decreases-loop-local_words l =
     length l.input - l.offset

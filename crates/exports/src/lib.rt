@@ -6,28 +6,14 @@
 ghost use Rattle.std.specs.Prelude.{◌≡◌, [], ◌+◌, ◌<◌, ◌^◌, length};
 ghost use Rattle.definitions.specs.Family.{BLAKE2b};
 ghost use Rattle.definitions.specs.Hash.{blake2};
+ghost use Rattle.refusals.specs.Answers.{number_in};
 ghost use Rattle.hash.specs.Output.{wrote, wrote_over};
 
 use blake2b::{State, blake2b};
 use guts::{Finalize, LastNode, Stride};
 use portable::compress1_loop;
+use refusals::Refusal;
 use words::write_words;
-
-fn finalize_of(yes: bool) -> Finalize {
-    if yes { Finalize::Yes } else { Finalize::No }
-}
-
-fn last_node_of(yes: bool) -> LastNode {
-    if yes { LastNode::Yes } else { LastNode::No }
-}
-
-fn stride_of(parallel: bool) -> Stride {
-    if parallel {
-        Stride::Parallel
-    } else {
-        Stride::Serial
-    }
-}
 
 #[unsafe(no_mangle)]
 pub extern "C" fn sumpillow_compress1_loop(
@@ -40,14 +26,18 @@ pub extern "C" fn sumpillow_compress1_loop(
 )
     requires { count + length input.now < 2 ^ 64 }
 {
-    let h = *words;
+    let stride = if parallel {
+        Stride::Parallel
+    } else {
+        Stride::Serial
+    };
     let run = compress1_loop(
         input,
-        h,
+        *words,
         count,
-        last_node_of(last_node),
-        finalize_of(finalize),
-        stride_of(parallel),
+        LastNode::from(last_node),
+        Finalize::from(finalize),
+        stride,
     );
     let next = run.words;
     *words = next;
@@ -55,9 +45,14 @@ pub extern "C" fn sumpillow_compress1_loop(
 
 #[unsafe(no_mangle)]
 pub extern "C" fn sumpillow_write_words(words: &[u64; 8], out: &mut [u8; 64]) {
-    let h = *words;
-    let bytes = write_words(h);
-    *out = bytes;
+    *out = write_words(*words);
+}
+
+// What C is told: 0, or the refusal's number.
+fn number(answer: Result<usize, Refusal>) -> u8
+    ensures { result ≡ number_in answer }
+{
+    answer.map_or_else(Refusal::number, |_| 0)
 }
 
 // The digest of 64 bytes, one-shot; the answer's number.
@@ -65,8 +60,7 @@ pub extern "C" fn sumpillow_write_words(words: &[u64; 8], out: &mut [u8; 64]) {
 pub extern "C" fn sumpillow_blake2b(input: &[u8], out: &mut [u8]) -> u8
     ensures { (result ≡ (wrote 64 (length out.old)).number) × (out.new ≡ wrote_over (blake2 BLAKE2b 64 [] input.now) out.old) }
 {
-    let written = blake2b(input).write_bytes(out);
-    written.number
+    number(blake2b(input).write_bytes(out))
 }
 
 // The same through a state and one update.
@@ -75,10 +69,7 @@ pub extern "C" fn sumpillow_state(input: &[u8], out: &mut [u8]) -> u8
     ensures { (result ≡ (wrote 64 (length out.old)).number) × (out.new ≡ wrote_over (blake2 BLAKE2b 64 [] input.now) out.old) }
 {
     let fresh = State::new();
-    let taken = fresh.update(input);
-    let state = taken.state;
-    let done = state.finalize();
-    let hash = done.hash;
-    let written = hash.write_bytes(out);
-    written.number
+    let taken = fresh.update(input).unwrap();
+    let hash = taken.finalize().unwrap();
+    number(hash.write_bytes(out))
 }

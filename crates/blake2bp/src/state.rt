@@ -72,7 +72,7 @@ impl State {
         Params::new().with_params()
     }
 
-    // Of no digest length, and so of no hash: out of its ranges.
+    // A record that is out of its ranges: every call on it is refused.
     #[tactic(auto, unfolding(laws_words::specs::Bytes::zeros))]
     pub fn zero() -> Self
         ensures { result ≡ zero_state }
@@ -128,7 +128,10 @@ impl State {
 
     // All that is there: rows of it go, one at least, and the rest waits.
     fn compress_rows(self, all: &[u8], rows: usize) -> Self
-        requires { (0 < rows) × (512 * rows ≤ length all.now) × (length all.now ≤ 512 * rows + 1024) × (self.count.0 + length all.now < 2 ^ 64) }
+        requires some { 0 < rows }
+        requires there { 512 * rows ≤ length all.now }
+        requires fits { length all.now ≤ 512 * rows + 1024 }
+        requires counts { self.count.0 + length all.now < 2 ^ 64 }
         ensures { result ≡ moved self all.now rows }
     {
         let end = ROW * rows;
@@ -144,7 +147,8 @@ impl State {
 
     // The buffer is empty: all rows that may go straight from the input.
     fn take_long(self, input: &[u8]) -> Self
-        requires { (self.buf_len ≡ 0) × (self.count.0 + length input.now < 2 ^ 64) }
+        requires empty { self.buf_len ≡ 0 }
+        requires counts { self.count.0 + length input.now < 2 ^ 64 }
         ensures { result ≡ moved self (pending self ++ input.now) (spare 512 384 (length input.now)) }
     {
         let rows = spare_rows(input.len());
@@ -157,7 +161,9 @@ impl State {
     // The buffer holds some and has no room for the input: it is filled, rows of it go, and the rest follows.
     // Both its rows go where more than 384 bytes are still to come, else the first one.
     fn spill(self, input: &[u8]) -> Self
-        requires { (self.buf_len ≤ 1024) × (1024 < self.buf_len + length input.now) × (self.count.0 + self.buf_len + length input.now < 2 ^ 64) }
+        requires held { self.buf_len ≤ 1024 }
+        requires more { 1024 < self.buf_len + length input.now }
+        requires counts { self.count.0 + self.buf_len + length input.now < 2 ^ 64 }
         ensures { result ≡ moved self (pending self ++ input.now) (spare 512 384 (self.buf_len + length input.now)) }
     {
         let room = BUFFER - self.buf_len;

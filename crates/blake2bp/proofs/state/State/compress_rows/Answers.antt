@@ -14,4 +14,4 @@ returns c =
     let r = c.requires in
     let gone = rowbytes * a.rows in
     let l = length-drop gone a.all.now in
-    rows_gone a.self a.all.now a.rows r.0 r.1 _ (take_all (length a.all.now - gone) (drop gone a.all.now) (omega arith)) c.compress_to_leaves.ensures c.padded.ensures
+    rows_gone a.self a.all.now a.rows r.some r.there _ (take_all (length a.all.now - gone) (drop gone a.all.now) (omega arith)) c.compress_to_leaves.ensures c.padded.ensures

@@ -14,7 +14,7 @@ use Rattle.blake2bp.proofs.state.State.spill.Goals as goal
 use Rattle.blake2bp.proofs.state.State.spill.Goals.{After-offset_slice-rest}
 
 full : (c : After-offset_slice-rest) → Filled c.args.self c.args.input.now c.fill_buf-full.result
-full c = record { sized = search rules; held = c.requires.0; more = c.requires.1; filled = c.fill_buf-full.ensures; whole = search rules }
+full c = record { sized = search rules; held = c.requires.held; more = c.requires.more; filled = c.fill_buf-full.ensures; whole = search rules }
 
 -- the bytes that are still to come
 coming : (c : After-offset_slice-rest) → length c.offset_slice-rest.result.now ≡ length c.args.input.now - (roombytes - c.args.self.buf_len)
@@ -24,7 +24,7 @@ pub compress_rows-requires : goal.compress_rows-requires
 compress_rows-requires c =
     let h = full (goal.at.compress_rows-requires c).After-offset_slice-rest in
     let n = full_count c.args.self c.args.input.now c.fill_buf-full.result h in
-    (omega arith, omega (arith, h.whole), omega (arith, h.whole), omega (arith, h.whole, h.more, c.requires.2))
+    record { some = omega arith; there = omega (arith, h.whole); fits = omega (arith, h.whole); counts = omega (arith, h.whole, h.more, c.requires.counts) }
 
 pub take_long-requires : goal.take_long-requires
 take_long-requires c =
@@ -34,7 +34,10 @@ take_long-requires c =
     let s = c.args.self in
     let e = c.compress_rows in
     let n = left_count s c.args.input.now c.fill_buf-full.result h e.result 2 e.ensures in
-    (left_held s c.args.input.now c.fill_buf-full.result h e.result 2 e.ensures, omega (arith, h.held, h.more, c.requires.2))
+    record {
+      empty = left_held s c.args.input.now c.fill_buf-full.result h e.result 2 e.ensures;
+      counts = omega (arith, h.held, h.more, c.requires.counts);
+    }
 
 pub returns-then-rest-gt-NEED : goal.returns-then-rest-gt-NEED
 returns-then-rest-gt-NEED c =
@@ -52,7 +55,7 @@ pub compress_rows-requires-2 : goal.compress_rows-requires-2
 compress_rows-requires-2 c =
     let h = full (goal.at.compress_rows-requires-2 c).After-offset_slice-rest in
     let n = full_count c.args.self c.args.input.now c.fill_buf-full.result h in
-    (omega arith, omega (arith, h.whole), omega (arith, h.whole), omega (arith, h.whole, h.more, c.requires.2))
+    record { some = omega arith; there = omega (arith, h.whole); fits = omega (arith, h.whole); counts = omega (arith, h.whole, h.more, c.requires.counts) }
 
 pub fill_buf-requires : goal.fill_buf-requires
 fill_buf-requires c =

@@ -23,7 +23,7 @@ rows_fit c = let e = c.spare_rows-rows.ensures in omega arith
 -- nothing waits
 empty : (c : Start) → pending c.args.self ≡ []
 unfolding buffer.pending
-empty c = rw c.requires.0
+empty c = rw c.requires.empty
 
 pub fill_buf-requires : goal.fill_buf-requires
 fill_buf-requires c = let n = rows_fit (goal.at.fill_buf-requires c).After-spare_rows-rows in omega arith
@@ -36,7 +36,7 @@ returns-then-rows-eq0 c =
 pub compress_rows-requires : goal.compress_rows-requires
 compress_rows-requires c =
     let n = rows_fit (goal.at.compress_rows-requires c).After-spare_rows-rows in
-    (omega arith, n.0, omega arith, c.requires.1)
+    record { some = omega arith; there = n.0; fits = omega arith; counts = c.requires.counts }
 
 pub returns : goal.returns
 returns c =

@@ -37,7 +37,7 @@ impl Session {
             Call::State(call) => self.on_state(call, room),
             Call::Digest(call) => self.on_digest(call, room),
             Call::Hash(message) => self.set_last(self.params.hash(message), room),
-            Call::Blake2b(message) => self.make_last(blake2b(message), room),
+            Call::Blake2b(message) => self.set_last(Ok(blake2b(message)), room),
         }
     }
 }

@@ -1,9 +1,10 @@
 // The calls of a script that make the last digest, or show what is asked of it.
 // An output that a call writes to is filled beforehand, so that untouched bytes are seen.
 use crate::session::Session;
-use crate::shown::{equal_shown, length_shown, yes_shown};
-use blake2b::{Hash, HashAnswer, LengthAnswer};
+use crate::shown::{length_shown, written_shown, yes_shown};
+use blake2b::Hash;
 use hash::is_digest_length;
+use refusals::Refusal;
 use replay_text::{Answer, Fault, ROOM, Shown, Words};
 use words::{read_words, write_words};
 
@@ -56,7 +57,7 @@ impl<'a> DigestCall<'a> {
 }
 
 // A digest of a length and the words of 64 bytes, which are read as the front of a block.
-fn from_words(length: usize, bytes: &[u8; 64]) -> HashAnswer {
+fn from_words(length: usize, bytes: &[u8; 64]) -> Result<Hash, Refusal> {
     let mut block = [0u8; 128];
     block[..64].copy_from_slice(bytes);
     let [a, b, c, d, e, f, g, h, ..] = read_words(&block);
@@ -69,16 +70,6 @@ fn output<'r>(length: usize, room: &'r mut [u8; ROOM]) -> &'r mut [u8] {
     room.get_mut(..length).unwrap_or_default()
 }
 
-fn written<'r>(answer: LengthAnswer, bytes: &'r [u8]) -> Answer<'r> {
-    Answer {
-        number: answer.number,
-        shown: Shown::Bytes {
-            length: answer.length,
-            bytes,
-        },
-    }
-}
-
 impl Session {
     pub(crate) fn on_digest<'r>(
         &mut self,
@@ -87,33 +78,33 @@ impl Session {
     ) -> Answer<'r> {
         let last = self.last;
         match call {
-            DigestCall::Zero => self.make_last(Hash::zero(), room),
-            DigestCall::FromBytes(bytes) => self.make_last(Hash::from_bytes(*bytes), room),
+            DigestCall::Zero => self.set_last(Ok(Hash::zero()), room),
+            DigestCall::FromBytes(bytes) => self.set_last(Ok(Hash::from_bytes(*bytes)), room),
             DigestCall::FromWords(length, bytes) => self.set_last(from_words(length, bytes), room),
             DigestCall::Keep => {
                 self.kept = last;
                 Answer::accepted(Shown::Nothing)
             }
             DigestCall::Len => length_shown(last.len()),
-            DigestCall::Equals => equal_shown(last.equals(self.kept)),
-            DigestCall::EqualsBytes(bytes) => equal_shown(last.equals_bytes(bytes)),
-            DigestCall::InRange => yes_shown(last.in_range()),
-            DigestCall::IsDigestLength(length) => yes_shown(is_digest_length(length)),
+            DigestCall::Equals => yes_shown(last.equals(self.kept)),
+            DigestCall::EqualsBytes(bytes) => yes_shown(last.equals_bytes(bytes)),
+            DigestCall::InRange => yes_shown(Ok(last.in_range())),
+            DigestCall::IsDigestLength(length) => yes_shown(Ok(is_digest_length(length))),
             DigestCall::WriteBytes(length) => {
                 let output = output(length, room);
-                written(last.write_bytes(output), output)
+                written_shown(last.write_bytes(output), output)
             }
             DigestCall::WriteHex(length) => {
                 let output = output(length, room);
-                written(last.write_hex(output), output)
+                written_shown(last.write_hex(output), output)
             }
             DigestCall::WrittenBytes(length) => {
                 let output = output(length, room);
-                written(last.write_bytes(output), last.written_bytes(output))
+                written_shown(last.write_bytes(output), last.written_bytes(output))
             }
             DigestCall::WrittenHex(length) => {
                 let output = output(length, room);
-                written(last.write_hex(output), last.written_hex(output))
+                written_shown(last.write_hex(output), last.written_hex(output))
             }
         }
     }

@@ -1,9 +1,9 @@
 // The calls of a script on parameters: setters, and questions that leave them as they are.
 // A call that can't refuse is answered the number 0.
 use crate::session::Session;
-use crate::shown::{bytes_shown, yes_shown};
-use blake2b::{Params, ParamsAnswer};
-use replay_text::{Answer, Fault, ROOM, Shown, Words};
+use crate::shown::{bytes_shown, length_shown, yes_shown};
+use blake2b::Params;
+use replay_text::{Answer, Fault, ROOM, Words};
 use words::write_words;
 
 #[derive(Clone, Copy)]
@@ -56,13 +56,6 @@ impl<'a> ParamsCall<'a> {
     }
 }
 
-fn new_params() -> ParamsAnswer {
-    ParamsAnswer {
-        number: 0,
-        params: Params::new(),
-    }
-}
-
 impl Session {
     pub(crate) fn on_params<'r>(
         &mut self,
@@ -71,7 +64,7 @@ impl Session {
     ) -> Answer<'r> {
         let params = self.params;
         match call {
-            ParamsCall::New => self.set_params(new_params()),
+            ParamsCall::New => self.set_params(Ok(Params::new())),
             ParamsCall::HashLength(length) => self.set_params(params.hash_length(length)),
             ParamsCall::Key(key) => self.set_params(params.key(key)),
             ParamsCall::Salt(salt) => self.set_params(params.salt(salt)),
@@ -85,12 +78,10 @@ impl Session {
                 length,
             )),
             ParamsCall::LastNode(yes) => self.set_params(params.last_node(yes)),
-            ParamsCall::InRange => yes_shown(params.in_range()),
-            ParamsCall::IsKeyed => yes_shown(params.is_keyed()),
-            ParamsCall::IsLastNode => yes_shown(params.is_last_node()),
-            ParamsCall::DigestLength => {
-                Answer::accepted(Shown::Length(params.digest_length() as usize))
-            }
+            ParamsCall::InRange => yes_shown(Ok(params.in_range())),
+            ParamsCall::IsKeyed => yes_shown(Ok(params.is_keyed())),
+            ParamsCall::IsLastNode => yes_shown(Ok(params.is_last_node())),
+            ParamsCall::DigestLength => length_shown(Ok(params.digest_length() as usize)),
             ParamsCall::KeyBlock => bytes_shown(&params.key_block(), room),
             ParamsCall::ToWords => bytes_shown(&write_words(params.to_words()), room),
         }

@@ -1,8 +1,9 @@
 // What a script has at hand between two lines.
-// The record that a call hands back becomes the current one, also where it refused.
-use crate::shown::digest_shown;
-use blake2b::{Hash, HashAnswer, Params, ParamsAnswer, State, StateAnswer};
-use replay_text::{Answer, ROOM, Shown};
+// The record that a call hands back becomes the current one; where it refused, what a refusal leaves does.
+use crate::shown::{digest_shown, record_kept};
+use blake2b::{Hash, Params, State};
+use refusals::Refusal;
+use replay_text::{Answer, ROOM};
 
 #[derive(Clone, Copy)]
 pub struct Session {
@@ -23,33 +24,19 @@ impl Session {
         }
     }
 
-    pub(crate) fn set_params(&mut self, answer: ParamsAnswer) -> Answer<'static> {
-        self.params = answer.params;
-        Answer {
-            number: answer.number,
-            shown: Shown::Nothing,
-        }
+    // A refused setter leaves the parameters as they were.
+    pub(crate) fn set_params(&mut self, answer: Result<Params, Refusal>) -> Answer<'static> {
+        let left = self.params;
+        record_kept(&mut self.params, answer, left)
     }
 
-    pub(crate) fn set_state(&mut self, answer: StateAnswer) -> Answer<'static> {
-        self.state = answer.state;
-        Answer {
-            number: answer.number,
-            shown: Shown::Nothing,
-        }
-    }
-
+    // A refused digest leaves zeros.
     pub(crate) fn set_last<'r>(
         &mut self,
-        answer: HashAnswer,
+        answer: Result<Hash, Refusal>,
         room: &'r mut [u8; ROOM],
     ) -> Answer<'r> {
-        self.last = answer.hash;
+        self.last = answer.unwrap_or(Hash::zero());
         digest_shown(answer, room)
-    }
-
-    // A digest of a call that can't refuse.
-    pub(crate) fn make_last<'r>(&mut self, hash: Hash, room: &'r mut [u8; ROOM]) -> Answer<'r> {
-        self.set_last(HashAnswer { number: 0, hash }, room)
     }
 }

@@ -1,8 +1,8 @@
-// The calls of a script on a state, which may be made of the current parameters.
+// The calls of a script on a state, which may be made of the current parameters: a refused one leaves the state, or the zero state.
 // A call that can't refuse is answered the number 0.
 use crate::session::Session;
-use crate::shown::{count_shown, yes_shown};
-use blake2b::{State, StateAnswer};
+use crate::shown::{count_shown, record_kept, yes_shown};
+use blake2b::State;
 use replay_text::{Answer, Fault, ROOM, Words};
 
 #[derive(Clone, Copy)]
@@ -33,10 +33,6 @@ impl<'a> StateCall<'a> {
     }
 }
 
-fn made(state: State) -> StateAnswer {
-    StateAnswer { number: 0, state }
-}
-
 impl Session {
     pub(crate) fn on_state<'r>(
         &mut self,
@@ -45,14 +41,14 @@ impl Session {
     ) -> Answer<'r> {
         let state = self.state;
         match call {
-            StateCall::New => self.set_state(made(State::new())),
-            StateCall::Zero => self.set_state(made(State::zero())),
-            StateCall::Open => self.set_state(self.params.to_state()),
-            StateCall::Update(message) => self.set_state(state.update(message)),
-            StateCall::SetLastNode(yes) => self.set_state(state.set_last_node(yes)),
+            StateCall::New => record_kept(&mut self.state, Ok(State::new()), state),
+            StateCall::Zero => record_kept(&mut self.state, Ok(State::zero()), state),
+            StateCall::Open => record_kept(&mut self.state, self.params.to_state(), State::zero()),
+            StateCall::Update(message) => record_kept(&mut self.state, state.update(message), state),
+            StateCall::SetLastNode(yes) => record_kept(&mut self.state, state.set_last_node(yes), state),
             StateCall::Finalize => self.set_last(state.finalize(), room),
             StateCall::Count => count_shown(state.count()),
-            StateCall::InRange => yes_shown(state.in_range()),
+            StateCall::InRange => yes_shown(Ok(state.in_range())),
         }
     }
 }

@@ -1,12 +1,13 @@
 // What a script has at hand between two lines for its calls on jobs and a bank, and the calls on it, with the current parameters.
-// The record that a call hands back becomes the current one, also where it refused, and so does a refused batch.
+// The record that a call hands back becomes the current one; where it refused, what a refusal leaves does.
 use crate::call::{BankCall, Call, JobCall};
-use bank::{Bank, BankAnswer, BatchAnswer, MOST_RECORDS, Piece};
+use bank::{Bank, MOST_RECORDS, Piece};
 use bank_lent::update_many_of_array;
 use blake2b::Params;
-use many::{HashManyJob, JobsAnswer, MOST_JOBS, hash_many};
+use many::{HashManyJob, MOST_JOBS, hash_many};
 use many_held::hash_through_job;
-use replay::{count_shown, digest_shown};
+use refusals::BatchRefusal;
+use replay::{count_shown, digest_shown, record_kept, written_shown};
 use replay_text::{Answer, ROOM, Shown};
 
 #[derive(Clone, Copy)]
@@ -17,23 +18,25 @@ pub struct Session {
     pub(crate) pieces: [Piece; MOST_RECORDS],
 }
 
-// The answer of a call that can't refuse.
-fn made(bank: Bank) -> BankAnswer {
-    BankAnswer { number: 0, bank }
+// A batch's records, which become the current ones. A refused batch leaves those it was over.
+fn batch_kept<T: Copy>(current: &mut T, answer: Result<T, BatchRefusal>) -> Answer<'static> {
+    match answer {
+        Ok(records) => {
+            *current = records;
+            Answer::accepted(Shown::Index(0))
+        }
+        Err(BatchRefusal { refusal, index }) => Answer {
+            number: refusal.number(),
+            shown: Shown::Index(index),
+        },
+    }
 }
 
 // The output is filled beforehand, so that untouched bytes are seen.
 fn digest_to<'r>(bank: Bank, slot: usize, length: usize, room: &'r mut [u8; ROOM]) -> Answer<'r> {
     room.fill(0xA5);
     let output = room.get_mut(..length).unwrap_or_default();
-    let answer = bank.digest_to(slot, output);
-    Answer {
-        number: answer.number,
-        shown: Shown::Bytes {
-            length: answer.length,
-            bytes: output,
-        },
-    }
+    written_shown(bank.digest_to(slot, output), output)
 }
 
 impl Session {
@@ -69,6 +72,7 @@ impl Session {
         call: JobCall<'_>,
         room: &'r mut [u8; ROOM],
     ) -> Answer<'r> {
+        let jobs = self.jobs;
         match call {
             JobCall::New {
                 place,
@@ -77,14 +81,13 @@ impl Session {
                 bytes,
             } => {
                 let answer = HashManyJob::new(params, bytes, start, length);
-                self.jobs[place.index] = answer.job;
-                Answer {
-                    number: answer.number,
-                    shown: Shown::Nothing,
-                }
+                record_kept(&mut self.jobs[place.index], answer, HashManyJob::zero())
             }
-            JobCall::Run { used, bytes } => self.set_jobs(hash_many(self.jobs, used, bytes)),
-            JobCall::Hash(place) => digest_shown(self.jobs[place.index].to_hash(), room),
+            JobCall::Run { used, bytes } => batch_kept(
+                &mut self.jobs,
+                hash_many(jobs, used, bytes),
+            ),
+            JobCall::Hash(place) => digest_shown(jobs[place.index].to_hash(), room),
             JobCall::Held(bytes) => digest_shown(hash_through_job(params, bytes), room),
         }
     }
@@ -97,48 +100,30 @@ impl Session {
     ) -> Answer<'r> {
         let bank = self.bank;
         match call {
-            BankCall::New => self.set_bank(made(Bank::new())),
-            BankCall::Open(slot) => self.set_bank(bank.open(slot, params)),
-            BankCall::Update { slot, message } => self.set_bank(bank.update(slot, message)),
-            BankCall::Close(slot) => self.set_bank(bank.close(slot)),
+            BankCall::New => record_kept(&mut self.bank, Ok(Bank::new()), bank),
+            BankCall::Open(slot) => record_kept(&mut self.bank, bank.open(slot, params), bank),
+            BankCall::Update { slot, message } => record_kept(
+                &mut self.bank,
+                bank.update(slot, message),
+                bank,
+            ),
+            BankCall::Close(slot) => record_kept(&mut self.bank, bank.close(slot), bank),
             BankCall::Piece(place, piece) => {
                 self.pieces[place.index] = piece;
                 Answer::accepted(Shown::Nothing)
             }
             BankCall::UpdateMany { used, bytes } => {
-                self.set_batch(bank.update_many(self.pieces, used, bytes))
+                batch_kept(&mut self.bank, bank.update_many(self.pieces, used, bytes))
             }
             BankCall::UpdateLent { used, bytes } => {
-                self.set_batch(update_many_of_array(bank, self.pieces, used, bytes))
+                batch_kept(
+                    &mut self.bank,
+                    update_many_of_array(bank, self.pieces, used, bytes),
+                )
             }
             BankCall::Digest(slot) => digest_shown(bank.digest(slot), room),
             BankCall::DigestTo { slot, length } => digest_to(bank, slot, length, room),
             BankCall::Count(slot) => count_shown(bank.count(slot)),
-        }
-    }
-
-    fn set_jobs(&mut self, answer: JobsAnswer) -> Answer<'static> {
-        let jobs = answer.jobs;
-        self.jobs = jobs;
-        Answer {
-            number: answer.number,
-            shown: Shown::Index(answer.index),
-        }
-    }
-
-    fn set_bank(&mut self, answer: BankAnswer) -> Answer<'static> {
-        self.bank = answer.bank;
-        Answer {
-            number: answer.number,
-            shown: Shown::Nothing,
-        }
-    }
-
-    fn set_batch(&mut self, answer: BatchAnswer) -> Answer<'static> {
-        self.bank = answer.bank;
-        Answer {
-            number: answer.number,
-            shown: Shown::Index(answer.index),
         }
     }
 }

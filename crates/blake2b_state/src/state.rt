@@ -6,7 +6,7 @@ ghost use Rattle.laws_blocks.specs.Chain.{spare, absorb};
 ghost use Rattle.laws_blocks.specs.Blocks.{on_bytes};
 ghost use Rattle.hash.specs.Answers.{as_hash_answer};
 ghost use Rattle.blake2b_state.specs.Answers.{as_state_answer, as_count_answer};
-ghost use Rattle.blake2b_state.specs.State.{state_in_range, zero_state, beginning, plain, pending, moved, updated, last_node_set, finalized, counted};
+ghost use Rattle.blake2b_state.specs.State.{state_in_range, WithinBounds, zero_state, beginning, plain, pending, moved, updated, last_node_set, finalized, counted};
 
 use guts::{Finalize, LastNode, Stride, offset_slice, store, zeroed};
 use hash::{Hash, OUTBYTES, is_digest_length};
@@ -127,7 +127,7 @@ impl State {
 
     // Refuses a record that breaks them.
     fn check(&self) -> Result<(), Refusal>
-        ensures { MatchResult result (λ _. state_in_range self.now ≡ true) (λ e. (e ≡ Refusal.Record) × (state_in_range self.now ≡ false)) }
+        ensures { MatchResult result (λ _. (state_in_range self.now ≡ true) × WithinBounds self.now) (λ e. (e ≡ Refusal.Record) × (state_in_range self.now ≡ false)) }
     {
         if !self.in_range() {
             return Err(Refusal::Record);
@@ -204,7 +204,7 @@ impl State {
         s.take_long(offset_slice(input, room))
     }
 
-    #[tactic(auto, using(crate::proofs::Exits::handed_on), unfolding(crate::specs::State::updated))]
+    #[tactic(auto, using(crate::proofs::Exits::handed_on), unfolding(crate::specs::State::updated, refusals::specs::Numbers::limit))]
     pub fn update(self, input: &[u8]) -> Result<Self, Refusal>
         ensures { as_state_answer self result ≡ updated self input.now }
     {
@@ -248,7 +248,7 @@ impl State {
     }
 
     // The message bytes that came: the key block is not one of them.
-    #[tactic(auto, using(crate::proofs::Exits::handed_on), unfolding(crate::specs::State::counted))]
+    #[tactic(auto, using(crate::proofs::Exits::handed_on), unfolding(crate::specs::State::counted, refusals::specs::Numbers::limit))]
     pub fn count(self) -> Result<u64, Refusal>
         ensures { as_count_answer result ≡ counted self }
     {

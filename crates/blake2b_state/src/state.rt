@@ -11,7 +11,7 @@ ghost use Rattle.blake2b_state.specs.State.{state_in_range, WithinBounds, zero_s
 use guts::{Finalize, LastNode, Stride, offset_slice, store, zeroed};
 use hash::{Hash, OUTBYTES, is_digest_length};
 use members::Bounds;
-use portable::{BLOCKBYTES, Compressed, compress1_loop, parameter_words};
+use portable::{BLOCKBYTES, Compressed, ParameterBlock, compress1_loop};
 use refusals::{LIMIT, Refusal};
 use words::write_words;
 
@@ -95,9 +95,21 @@ impl State {
     pub fn new() -> Self
         ensures { result ≡ plain }
     {
+        let sequential = ParameterBlock {
+            digest_length: OUTBYTES as u8,
+            key_length: 0,
+            fanout: 1,
+            depth: 1,
+            leaf_length: 0,
+            node_offset: 0,
+            node_depth: 0,
+            inner_length: 0,
+            salt: [0; 16],
+            personal: [0; 16],
+        };
         State {
-            words: parameter_words(64, 0, 1, 1, 0, 0, 0, 0, [0; 16], [0; 16]),
-            hash_length: 64,
+            words: sequential.words(),
+            hash_length: OUTBYTES as u8,
             ..State::zero()
         }
     }

@@ -18,7 +18,7 @@ ghost use Rattle.blake2b.specs.Params.{hash_length_at, fanout_at, max_depth_at, 
 use blake2b_state::State;
 use guts::{padded, zeroed};
 use hash::{OUTBYTES, is_digest_length};
-use portable::parameter_words;
+use portable::ParameterBlock;
 use refusals::Refusal;
 
 #[derive(Clone, Copy)]
@@ -241,18 +241,21 @@ impl Params {
     pub fn to_words(self) -> [u64; 8]
         ensures { result ≡ start BLAKE2b (asked self) }
     {
-        parameter_words(
-            self.hash_length,
-            self.key_length,
-            self.fanout,
-            self.max_depth,
-            self.max_leaf_length,
-            self.node_offset,
-            self.node_depth,
-            self.inner_hash_length,
-            self.salt,
-            self.personal,
-        )
+        let salt = self.salt;
+        let personal = self.personal;
+        ParameterBlock {
+            digest_length: self.hash_length,
+            key_length: self.key_length,
+            fanout: self.fanout,
+            depth: self.max_depth,
+            leaf_length: self.max_leaf_length,
+            node_offset: self.node_offset,
+            node_depth: self.node_depth,
+            inner_length: self.inner_hash_length,
+            salt,
+            personal,
+        }
+        .words()
     }
 
     // The state of no message bytes.

@@ -6,12 +6,12 @@ ghost use Rattle.laws_blocks.specs.Chain.{spare, absorb};
 ghost use Rattle.laws_blocks.specs.Blocks.{on_bytes};
 ghost use Rattle.hash.specs.Answers.{as_hash_answer};
 ghost use Rattle.blake2b_state.specs.Answers.{as_state_answer, as_count_answer};
-ghost use Rattle.blake2b_state.specs.State.{state_in_range, zero_state, beginning, plain, pending, moved, updated, last_node_set, finalized, counted};
+ghost use Rattle.blake2b_state.specs.State.{state_in_range, WithinBounds, zero_state, beginning, plain, pending, moved, updated, last_node_set, finalized, counted};
 
 use guts::{Finalize, LastNode, Stride, offset_slice, store, zeroed};
 use hash::{Hash, OUTBYTES, is_digest_length};
 use members::Bounds;
-use portable::{BLOCKBYTES, Compressed, compress1_loop, parameter_words};
+use portable::{BLOCKBYTES, Compressed, ParameterBlock, compress1_loop};
 use refusals::{LIMIT, Refusal};
 use words::write_words;
 
@@ -95,9 +95,21 @@ impl State {
     pub fn new() -> Self
         ensures { result ≡ plain }
     {
+        let sequential = ParameterBlock {
+            digest_length: OUTBYTES as u8,
+            key_length: 0,
+            fanout: 1,
+            depth: 1,
+            leaf_length: 0,
+            node_offset: 0,
+            node_depth: 0,
+            inner_length: 0,
+            salt: [0; 16],
+            personal: [0; 16],
+        };
         State {
-            words: parameter_words(64, 0, 1, 1, 0, 0, 0, 0, [0; 16], [0; 16]),
-            hash_length: 64,
+            words: sequential.words(),
+            hash_length: OUTBYTES as u8,
             ..State::zero()
         }
     }
@@ -127,7 +139,7 @@ impl State {
 
     // Refuses a record that breaks them.
     fn check(&self) -> Result<(), Refusal>
-        ensures { MatchResult result (λ _. state_in_range self.now ≡ true) (λ e. (e ≡ Refusal.Record) × (state_in_range self.now ≡ false)) }
+        ensures { MatchResult result (λ _. (state_in_range self.now ≡ true) × WithinBounds self.now) (λ e. (e ≡ Refusal.Record) × (state_in_range self.now ≡ false)) }
     {
         if !self.in_range() {
             return Err(Refusal::Record);
@@ -204,7 +216,7 @@ impl State {
         s.take_long(offset_slice(input, room))
     }
 
-    #[tactic(auto, using(crate::proofs::Exits::handed_on), unfolding(crate::specs::State::updated))]
+    #[tactic(auto, using(crate::proofs::Exits::handed_on), unfolding(crate::specs::State::updated, refusals::specs::Numbers::limit))]
     pub fn update(self, input: &[u8]) -> Result<Self, Refusal>
         ensures { as_state_answer self result ≡ updated self input.now }
     {
@@ -248,7 +260,7 @@ impl State {
     }
 
     // The message bytes that came: the key block is not one of them.
-    #[tactic(auto, using(crate::proofs::Exits::handed_on), unfolding(crate::specs::State::counted))]
+    #[tactic(auto, using(crate::proofs::Exits::handed_on), unfolding(crate::specs::State::counted, refusals::specs::Numbers::limit))]
     pub fn count(self) -> Result<u64, Refusal>
         ensures { as_count_answer result ≡ counted self }
     {

@@ -6,7 +6,7 @@ use mathlib.Core.List.{List, [], ◌∷◌, ◌++◌, map, flat_map}
 use Prim.Native.Nat.{ℕ, zero, suc, ◌+◌}
 use native.Mathlib.Omega.{arith}
 use lib.ListN.{length, get_or, drop, drop_of_length-le, replicate}
-use lib.Seq.{paste, drop-cons}
+use lib.Seq.{drop-cons}
 use Rattle.std.specs.List.{flat_map as flat_lists}
 use Rattle.definitions.specs.Words.{from, pad}
 use Rattle.definitions.specs.Family.{BLAKE2b}
@@ -16,7 +16,6 @@ use Rattle.laws_blocks.specs.Chain.{through}
 use Rattle.laws_blocks.specs.Blocks.{on_bytes, through_blocks}
 use Rattle.laws_states.specs.Deal.{each}
 use Rattle.laws_states.proofs.Images.{through_image}
-use Rattle.laws_words.proofs.Stores.{paste_padded}
 use Rattle.blake2bp_leaves.specs.Leaves.{leaf_of, words_of, state_of, on_leaf}
 use Rattle.blake2bp_leaves.specs.declared.leaves.Leaf.{Leaf}
 use Rattle.blake2bp_leaves.specs.Sizes.{degree, blockbytes, rowbytes, outbytes}
@@ -41,10 +40,6 @@ pub each_at : (g : ℕ → Leaf → Leaf) (ls : List Leaf) (z : Leaf) (i n : ℕ
 unfolding each
 each_at g ls z i zero e = sym (drop_of_length-le ls (omega arith))
 each_at g ls z i (suc n) e = rw (drop-cons ls i z (omega arith), each_at g ls z (suc i) n (omega arith))
-
--- a turn of a loop that fills a buffer of n bytes: b is stored behind x
-pub filled_turn : (n : ℕ) (x b : List ℕ) {at : ℕ} {buf r : List ℕ} → buf ≡ pad n x → at ≡ length x → r ≡ paste buf at b (length b) → r ≡ pad n (x ++ b)
-filled_turn n x b {at} e f g = g ∙ ap (λ (d : List ℕ). paste d at b (length b)) e ∙ paste_padded n x b f
 
 -- parameters whose salt and personalization are zeros are those that have none
 pub zeros_are_none : (d k o e : ℕ)

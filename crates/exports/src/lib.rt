@@ -6,13 +6,12 @@
 ghost use Rattle.std.specs.Prelude.{◌≡◌, [], ◌+◌, ◌<◌, ◌^◌, length};
 ghost use Rattle.definitions.specs.Family.{BLAKE2b};
 ghost use Rattle.definitions.specs.Hash.{blake2};
-ghost use Rattle.refusals.specs.Answers.{number_in};
 ghost use Rattle.hash.specs.Output.{wrote, wrote_over};
 
 use blake2b::{State, blake2b};
 use guts::{Finalize, LastNode, Stride};
 use portable::compress1_loop;
-use refusals::Refusal;
+use refusals::number_in;
 use words::write_words;
 
 #[unsafe(no_mangle)]
@@ -48,19 +47,12 @@ pub extern "C" fn sumpillow_write_words(words: &[u64; 8], out: &mut [u8; 64]) {
     *out = write_words(*words);
 }
 
-// What C is told: 0, or the refusal's number.
-fn number(answer: Result<usize, Refusal>) -> u8
-    ensures { result ≡ number_in answer }
-{
-    answer.map_or_else(Refusal::number, |_| 0)
-}
-
 // The digest of 64 bytes, one-shot; the answer's number.
 #[unsafe(no_mangle)]
 pub extern "C" fn sumpillow_blake2b(input: &[u8], out: &mut [u8]) -> u8
     ensures { (result ≡ (wrote 64 (length out.old)).number) × (out.new ≡ wrote_over (blake2 BLAKE2b 64 [] input.now) out.old) }
 {
-    number(blake2b(input).write_bytes(out))
+    number_in(&blake2b(input).write_bytes(out))
 }
 
 // The same through a state and one update.
@@ -71,5 +63,5 @@ pub extern "C" fn sumpillow_state(input: &[u8], out: &mut [u8]) -> u8
     let fresh = State::new();
     let taken = fresh.update(input).unwrap();
     let hash = taken.finalize().unwrap();
-    number(hash.write_bytes(out))
+    number_in(&hash.write_bytes(out))
 }

@@ -5,16 +5,8 @@
 use bank::{Bank, MOST_RECORDS, Piece, SLOTS};
 use blake2b::{Params, State};
 use many::{HashManyJob, MOST_JOBS, hash_many};
-use refusals::Refusal;
+use refusals::number_in;
 use std::array;
-
-// What C is told: 0, or the refusal's number.
-fn number_of<T: Drop>(answer: Result<T, Refusal>) -> u8 {
-    match answer {
-        Ok(_) => 0,
-        Err(refusal) => refusal.number(),
-    }
-}
 
 // The digest of a state that took the input so many times.
 #[unsafe(no_mangle)]
@@ -25,7 +17,7 @@ pub extern "C" fn sumpillow_state_updates(input: &[u8], times: usize, out: &mut 
             state = next;
         }
     }
-    number_of(state.finalize().and_then(|hash| hash.write_bytes(out)))
+    number_in(&state.finalize().and_then(|hash| hash.write_bytes(out)))
 }
 
 // A bank whose slots are all open.
@@ -53,7 +45,7 @@ pub extern "C" fn sumpillow_bank_updates(
             bank = next;
         }
     }
-    number_of(bank.digest_to(slot, out))
+    number_in(&bank.digest_to(slot, out))
 }
 
 // The digest of a slot of an open bank after so many batches of so many records, each record of the whole input.
@@ -77,7 +69,7 @@ pub extern "C" fn sumpillow_bank_batches(
             bank = next;
         }
     }
-    number_of(bank.digest_to(slot, out))
+    number_in(&bank.digest_to(slot, out))
 }
 
 // A slot of an open bank is asked for its digest so many times.
@@ -86,7 +78,7 @@ pub extern "C" fn sumpillow_bank_digests(times: usize, slot: usize, out: &mut [u
     let bank = opened();
     let mut number = 0;
     for _ in 0..times {
-        number = number_of(bank.digest_to(slot, out));
+        number = number_in(&bank.digest_to(slot, out));
     }
     number
 }

@@ -1,14 +1,13 @@
 -- The laws of batches: the first bad job turn by turn, what its number says of the jobs, and each answer case by case.
 -- Assumes nothing.
 use mathlib.Core.Path.{◌≡◌, refl, sym, ap, ◌∙◌}
-use mathlib.Core.Bool.{Bool, true, false}
 use mathlib.Core.List.{List, [], ◌∷◌, ◌++◌, map}
 use Prim.Native.Nat.{ℕ, zero, suc, ◌+◌, ◌<◌, ◌≤◌}
 use native.Mathlib.Nat.{not-suc-le-zero, le_of_suc-le-suc}
 use native.Mathlib.Numerals.{add-one}
 use native.Mathlib.Omega.{arith}
-use borrow.Author.Tests.{le-leb, lt-leb, eq-eqb, ne_eqb, eqb-true, eqb-false}
-use lib.Dec.{eqb}
+use Rattle.std.proofs.lemmas.Bool.Decides.{nat_tests}
+use borrow.Author.Tests.{le-leb, lt-leb, eq-eqb, ne_eqb}
 use lib.ListN.{length, get_or, take, drop, set, length-take}
 use lib.Seq.{drop-cons, get_or-take}
 use Rattle.std.specs.Prelude.{Result, Ok, Err}
@@ -48,11 +47,8 @@ module _ (n : ℕ) where
   none_left jobs i h = ap (first_bad n i) (drop_of_length-le jobs h)
 
   head_accepted : (i : ℕ) (j : HashManyJob) (js : List HashManyJob) → (first_bad n i (j ∷ js)).number ≡ accepted → job_refusal n j ≡ accepted
-  head_accepted i j js e = split (eqb (job_refusal n j) accepted) refl
-    where
-      split : (b : Bool) → eqb (job_refusal n j) accepted ≡ b → job_refusal n j ≡ accepted
-      split true q = eqb-true (job_refusal n j) accepted q
-      split false q = ap (λ (a : FirstBad). a.number) (sym (first_here i j js refl (eqb-false (job_refusal n j) accepted q))) ∙ e
+  unfolding first_bad
+  head_accepted i j js e = grind (arith, nat_tests)
 
   -- where none is bad, each is accepted
   pub each_accepted : (i : ℕ) (js : List HashManyJob) → (first_bad n i js).number ≡ accepted → (k : ℕ) (z : HashManyJob) → k < length js → job_refusal n (get_or js k z) ≡ accepted

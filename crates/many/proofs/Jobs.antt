@@ -1,14 +1,13 @@
 -- The laws of jobs: what one is that was made, what a batch that accepts it knows of it, and how it is run.
 -- Assumes nothing.
-use mathlib.Core.Path.{◌≡◌, refl, ap}
-use mathlib.Core.Bool.{Bool, true, false, cond, ◌||◌}
+use mathlib.Core.Path.{◌≡◌, ap}
+use mathlib.Core.Bool.{true, false}
 use mathlib.Core.List.{List}
 use Prim.Native.Nat.{ℕ, ◌+◌, ◌≤◌}
 use native.Mathlib.Omega.{arith}
-use borrow.Author.Tests.{leb-true}
-use lib.Dec.{leb}
+use Rattle.std.proofs.lemmas.Bool.Decides.{nat_tests}
 use lib.ListN.{length}
-use Rattle.refusals.specs.Numbers.{accepted, total_over, piece_outside, bad_record, limit, piece_ok}
+use Rattle.refusals.specs.Numbers.{accepted, bad_record, limit, piece_ok}
 use Rattle.hash.specs.Hash.{no_hash}
 use Rattle.blake2b.specs.Params.{in_range}
 use Rattle.blake2b.specs.declared.params.Params.{Params}
@@ -16,7 +15,7 @@ use Rattle.many_work.specs.Work.{key_bytes, begun}
 use Rattle.many_work.specs.declared.work.Work.{Work}
 use Rattle.many_work.proofs.Works.{run_finished}
 use Rattle.many_work.proofs.Runs.{zero_out_of_range}
-use Rattle.many.specs.Job.{placed, zero_job, no_job, job_in_range, made_job, input_of, run_over, job_refusal, job_hash}
+use Rattle.many.specs.Job.{placed, zero_job, job_in_range, made_job, input_of, run_over, job_refusal, job_hash}
 use Rattle.many.specs.declared.placed.HashManyJob.{HashManyJob}
 
 -- what the making of a job means that was accepted
@@ -26,36 +25,20 @@ pub record Made (p : Params) (d : List ℕ) (at n : ℕ) : Type 0 where
   pub within : key_bytes p + n ≤ limit
   pub is : (made_job p d at n).job ≡ placed (begun p n) at n
 
-checks_passed : (a b c : Bool) (j : HashManyJob) → (cond a (cond b (cond c (record { number = accepted; job = j }) (no_job total_over)) (no_job piece_outside)) (no_job bad_record)).number ≡ accepted
-    → (a ≡ true) × (b ≡ true) × (c ≡ true)
-checks_passed true true true j e = (refl, refl, refl)
-checks_passed true true false j e = absurd (omega arith)
-checks_passed true false c j e = absurd (omega arith)
-checks_passed false b c j e = absurd (omega arith)
-
 pub made : (p : Params) (d : List ℕ) (at n : ℕ) → (made_job p d at n).number ≡ accepted → Made p d at n
 unfolding made_job
-made p d at n e =
-    let q = checks_passed (in_range p) (piece_ok at n (length d)) (leb (key_bytes p + n) limit) (placed (begun p n) at n) e in
-    record { good = q.0; fits = q.1; within = leb-true (key_bytes p + n) limit q.2; is = rw (q.0, q.1, q.2) }
+made p d at n e = record { good = grind arith; fits = grind arith; within = grind (arith, nat_tests); is = grind arith }
 
 -- what a batch refuses a job with
 module _ (n : ℕ) (j : HashManyJob) where
   -- a job that a batch accepts is in range, and is finished or lies inside the data
-  accepted_means : (r f : Bool) → cond r (cond f accepted piece_outside) bad_record ≡ accepted → (r ≡ true) × (f ≡ true)
-  accepted_means true true e = (refl, refl)
-  accepted_means true false e = absurd (omega arith)
-  accepted_means false f e = absurd (omega arith)
-
   pub accepted_range : job_refusal n j ≡ accepted → job_in_range j ≡ true
   unfolding job_refusal
-  accepted_range e = (accepted_means (job_in_range j) (j.work.finished || piece_ok j.start j.length n) e).0
+  accepted_range e = grind arith
 
   pub accepted_inside : job_refusal n j ≡ accepted → j.work.finished ≡ false → piece_ok j.start j.length n ≡ true
   unfolding job_refusal
-  accepted_inside e f =
-      let g = (accepted_means (job_in_range j) (j.work.finished || piece_ok j.start j.length n) e).1 in
-      rw f at g
+  accepted_inside e f = grind arith
 
 -- a finished job that is in range is accepted over any data
 pub finished_accepted : (n : ℕ) (j : HashManyJob) → job_in_range j ≡ true → j.work.finished ≡ true → job_refusal n j ≡ accepted

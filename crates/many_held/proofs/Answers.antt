@@ -48,12 +48,8 @@ module _ (w : Work) (m : List ℕ) where
   ran_outside e = rw e
 
 ran_twice : (w : Work) (m : List ℕ) → ran_work (ran_work w m).work m ≡ ran_work w m
-ran_twice w m = split (work_in_range w (length m)) refl
-  where
-    split : (b : Bool) → work_in_range w (length m) ≡ b → ran_work (ran_work w m).work m ≡ ran_work w m
-    split true e =
-        rw (ran_within w m e) (ran_within (run_on m w) m (run_keeps_range m w (length m) ∙ e) ∙ ap (λ (v : Work). record { number = accepted; work = v }) (run_again m m w))
-    split false e = rw (ran_outside w m e) (ran_outside w m e)
+unfolding ran_work
+ran_twice w m = grind (arith, run_again, run_keeps_range)
 
 -- running a job again changes nothing: it answers the same number and the same job, whatever the record
 pub twice : (j : HashManyJob) → ran_job (ran_job j).job ≡ ran_job j

@@ -1,11 +1,11 @@
 -- The laws of a job's work: its range, its run and the digest of finished work.
 -- Assumes nothing.
-use mathlib.Core.Path.{◌≡◌, refl, sym, ap, ◌∙◌}
-use mathlib.Core.Bool.{Bool, true, false, and-eq-true_iff}
+use mathlib.Core.Path.{◌≡◌, ap, ◌∙◌}
+use mathlib.Core.Bool.{true, false}
 use mathlib.Core.List.{List}
 use Prim.Native.Nat.{ℕ, ◌+◌, ◌-◌, ◌≤◌}
 use native.Mathlib.Omega.{arith}
-use borrow.Author.Tests.{le-leb, lt-leb, leb-true, leb-false}
+use Rattle.std.proofs.lemmas.Bool.Decides.{nat_tests}
 use lib.Dec.{leb}
 use lib.ListN.{length, take}
 use Rattle.definitions.specs.Family.{BLAKE2b}
@@ -20,18 +20,12 @@ use Rattle.many_work.specs.declared.work.Work.{Work}
 
 -- the test of a total by subtraction
 pub room_left : (t n : ℕ) → t ≤ limit → leb n (limit - t) ≡ leb (t + n) limit
-room_left t n h = split (leb n (limit - t)) refl
-  where
-    split : (b : Bool) → leb n (limit - t) ≡ b → leb n (limit - t) ≡ leb (t + n) limit
-    split true e = let g = leb-true n (limit - t) e in e ∙ sym (le-leb (t + n) limit (omega arith))
-    split false e = let g = leb-false n (limit - t) e in e ∙ sym (lt-leb (t + n) limit (omega arith))
+room_left t n h = grind (arith, nat_tests)
 
 -- what work in range keeps
 pub in_range_lem : (w : Work) (n : ℕ) → work_in_range w n ≡ true → (is_digest_length w.hash_length ≡ true) × (w.count + n ≤ limit)
 unfolding work_in_range
-in_range_lem w n e =
-    let p = (and-eq-true_iff (is_digest_length w.hash_length) (leb (w.count + n) limit)).0 e in
-    (p.0, leb-true (w.count + n) limit p.1)
+in_range_lem w n e = grind (arith, nat_tests)
 
 -- a run
 module _ (m : List ℕ) (w : Work) where

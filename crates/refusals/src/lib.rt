@@ -7,7 +7,7 @@ mod refusal;
 ghost use Rattle.std.specs.Prelude.{◌≡◌};
 ghost use Rattle.refusals.specs.Numbers.{piece_ok};
 
-pub use refusal::{BatchRefusal, Refusal};
+pub use refusal::{BatchRefusal, Refusal, number_in};
 
 // Message bytes and key block bytes together are at most this.
 pub const LIMIT: u64 = u64::MAX;

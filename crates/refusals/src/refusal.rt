@@ -1,7 +1,7 @@
 // Why a call is refused: an error for each of document 01's numbers, in its order.
 // A batch's refusal says as well which record or job it is.
 ghost use Rattle.std.specs.Prelude.{◌≡◌, Some};
-ghost use Rattle.refusals.specs.Answers.{number_of};
+ghost use Rattle.refusals.specs.Answers.{number_of, number_in};
 ghost use Rattle.refusals.specs.Texts.{text_of, batch_text_of};
 
 use std::error::Error;
@@ -46,6 +46,16 @@ impl Refusal {
             Refusal::Open => 13,
             Refusal::Record => 14,
         }
+    }
+}
+
+// What is told where an answer is a number alone: 0, or the refusal's.
+pub fn number_in<T>(answer: &Result<T, Refusal>) -> u8
+    ensures { result ≡ number_in answer.now }
+{
+    match answer {
+        Ok(_) => 0,
+        Err(refusal) => refusal.number(),
     }
 }
 

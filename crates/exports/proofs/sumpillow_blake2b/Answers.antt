@@ -16,4 +16,4 @@ returns c =
     let m = c.args.input.now in
     let w = written_output (blake2 BLAKE2b outbytes [] m) c.args.out.now outbytes (omega arith) (omega arith) (length_of_digest m)
     (c.blake2b.ensures ∙ ap hash_of (digest_plain m)) c.write_bytes.ensures in
-    (c.number.ensures ∙ w.0, w.1)
+    (c.number_in.ensures ∙ w.0, w.1)

@@ -49,4 +49,4 @@ returns c =
     let m = c.args.input.now in
     let w = written_output (blake2 BLAKE2b outbytes [] m) c.args.out.now outbytes (omega arith) (omega arith) (length_of_digest m)
     (ap (value_in zero_hash) (sym c.unwrap-hash.ensures ∙ made (goal.at.returns c).After-finalize)) c.write_bytes.ensures in
-    (c.number.ensures ∙ w.0, w.1)
+    (c.number_in.ensures ∙ w.0, w.1)

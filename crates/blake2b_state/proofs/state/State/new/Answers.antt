@@ -10,7 +10,7 @@ use Rattle.blake2b_state.proofs.state.State.new.Goals as goal
 pub returns : goal.returns
 unfolding start parameter_block key_front pad zeros
 returns c = λ j. let z = c.zero.ensures j in record {
-  words = c.parameter_words.ensures j;
+  words = c.words.ensures j;
   count = z.count;
   buf = z.buf;
   buflen = z.buflen;

@@ -1,7 +1,7 @@
 // The calls of a script that make the last digest, or show what is asked of it.
 // An output that a call writes to is filled beforehand, so that untouched bytes are seen.
 use crate::session::Session;
-use crate::shown::{length_shown, written_shown, yes_shown};
+use crate::shown::{value_shown, written_shown};
 use blake2b::Hash;
 use hash::is_digest_length;
 use refusals::Refusal;
@@ -85,11 +85,13 @@ impl Session {
                 self.kept = last;
                 Answer::accepted(Shown::Nothing)
             }
-            DigestCall::Len => length_shown(last.len()),
-            DigestCall::Equals => yes_shown(last.equals(self.kept)),
-            DigestCall::EqualsBytes(bytes) => yes_shown(last.equals_bytes(bytes)),
-            DigestCall::InRange => yes_shown(Ok(last.in_range())),
-            DigestCall::IsDigestLength(length) => yes_shown(Ok(is_digest_length(length))),
+            DigestCall::Len => value_shown(last.len(), Shown::Length),
+            DigestCall::Equals => value_shown(last.equals(self.kept), Shown::Equal),
+            DigestCall::EqualsBytes(bytes) => value_shown(last.equals_bytes(bytes), Shown::Equal),
+            DigestCall::InRange => Answer::accepted(Shown::Equal(last.in_range())),
+            DigestCall::IsDigestLength(length) => Answer::accepted(Shown::Equal(is_digest_length(
+                length,
+            ))),
             DigestCall::WriteBytes(length) => {
                 let output = output(length, room);
                 written_shown(last.write_bytes(output), output)

@@ -13,5 +13,5 @@ pub use call::Call;
 pub use digest::DigestCall;
 pub use params::ParamsCall;
 pub use session::Session;
-pub use shown::{count_shown, digest_shown, length_shown, record_kept, written_shown, yes_shown};
+pub use shown::{digest_shown, record_kept, value_shown, written_shown};
 pub use state::StateCall;

@@ -1,9 +1,9 @@
 // The calls of a script on parameters: setters, and questions that leave them as they are.
 // A call that can't refuse is answered the number 0.
 use crate::session::Session;
-use crate::shown::{bytes_shown, length_shown, yes_shown};
+use crate::shown::bytes_shown;
 use blake2b::Params;
-use replay_text::{Answer, Fault, ROOM, Words};
+use replay_text::{Answer, Fault, ROOM, Shown, Words};
 use words::write_words;
 
 #[derive(Clone, Copy)]
@@ -78,10 +78,12 @@ impl Session {
                 length,
             )),
             ParamsCall::LastNode(yes) => self.set_params(params.last_node(yes)),
-            ParamsCall::InRange => yes_shown(Ok(params.in_range())),
-            ParamsCall::IsKeyed => yes_shown(Ok(params.is_keyed())),
-            ParamsCall::IsLastNode => yes_shown(Ok(params.is_last_node())),
-            ParamsCall::DigestLength => length_shown(Ok(params.digest_length() as usize)),
+            ParamsCall::InRange => Answer::accepted(Shown::Equal(params.in_range())),
+            ParamsCall::IsKeyed => Answer::accepted(Shown::Equal(params.is_keyed())),
+            ParamsCall::IsLastNode => Answer::accepted(Shown::Equal(params.is_last_node())),
+            ParamsCall::DigestLength => Answer::accepted(Shown::Length(
+                params.digest_length() as usize,
+            )),
             ParamsCall::KeyBlock => bytes_shown(&params.key_block(), room),
             ParamsCall::ToWords => bytes_shown(&write_words(params.to_words()), room),
         }

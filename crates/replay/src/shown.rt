@@ -3,14 +3,24 @@
 ghost use Rattle.std.specs.Prelude.{◌≤◌, length};
 
 use blake2b::Hash;
-use refusals::Refusal;
+use refusals::{Refusal, number_in};
 use replay_text::{Answer, ROOM, Shown};
 
-fn number<T: Copy>(answer: Result<T, Refusal>) -> u8 {
-    match answer {
-        Ok(_) => 0,
-        Err(refusal) => refusal.number(),
+pub fn value_shown<'r, T: Copy + Default, F: FnOnce(T) -> Shown<'r>>(
+    answer: Result<T, Refusal>,
+    show: F,
+) -> Answer<'r>
+    requires { F.IsAlwaysCallable show }
+{
+    Answer {
+        number: number_in(&answer),
+        shown: show(answer.unwrap_or_default()),
     }
+}
+
+// What a call wrote, and its output or a part of it.
+pub fn written_shown<'r>(answer: Result<usize, Refusal>, bytes: &'r [u8]) -> Answer<'r> {
+    value_shown(answer, |length| Shown::Bytes { length, bytes })
 }
 
 // A record that becomes the current one. Where the call refused, `left` does.
@@ -21,7 +31,7 @@ pub fn record_kept<T: Copy>(
 ) -> Answer<'static> {
     *current = answer.unwrap_or(left);
     Answer {
-        number: number(answer),
+        number: number_in(&answer),
         shown: Shown::Nothing,
     }
 }
@@ -29,45 +39,10 @@ pub fn record_kept<T: Copy>(
 pub fn digest_shown<'r>(answer: Result<Hash, Refusal>, room: &'r mut [u8; ROOM]) -> Answer<'r> {
     let hash = answer.unwrap_or(Hash::zero());
     let length = hash.write_bytes(room).unwrap_or(0);
+    let bytes = hash.written_bytes(room);
     Answer {
-        number: number(answer),
-        shown: Shown::Bytes {
-            length,
-            bytes: hash.written_bytes(room),
-        },
-    }
-}
-
-pub fn count_shown(answer: Result<u64, Refusal>) -> Answer<'static> {
-    Answer {
-        number: number(answer),
-        shown: Shown::Count(answer.unwrap_or(0)),
-    }
-}
-
-pub fn length_shown(answer: Result<usize, Refusal>) -> Answer<'static> {
-    Answer {
-        number: number(answer),
-        shown: Shown::Length(answer.unwrap_or(0)),
-    }
-}
-
-// Yes or no, of a comparison or of a question.
-pub fn yes_shown(answer: Result<bool, Refusal>) -> Answer<'static> {
-    Answer {
-        number: number(answer),
-        shown: Shown::Equal(answer.unwrap_or(false)),
-    }
-}
-
-// What a call wrote, and its output or a part of it.
-pub fn written_shown<'r>(answer: Result<usize, Refusal>, bytes: &'r [u8]) -> Answer<'r> {
-    Answer {
-        number: number(answer),
-        shown: Shown::Bytes {
-            length: answer.unwrap_or(0),
-            bytes,
-        },
+        number: number_in(&answer),
+        shown: Shown::Bytes { length, bytes },
     }
 }
 
@@ -75,7 +50,11 @@ pub fn written_shown<'r>(answer: Result<usize, Refusal>, bytes: &'r [u8]) -> Ans
 pub(crate) fn bytes_shown<'r>(bytes: &[u8], room: &'r mut [u8; ROOM]) -> Answer<'r>
     requires { length bytes.now ≤ ROOM }
 {
-    let shown = &mut room[..bytes.len()];
+    let length = bytes.len();
+    let shown = &mut room[..length];
     shown.copy_from_slice(bytes);
-    written_shown(Ok(bytes.len()), shown)
+    Answer::accepted(Shown::Bytes {
+        length,
+        bytes: shown,
+    })
 }

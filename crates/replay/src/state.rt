@@ -1,9 +1,9 @@
 // The calls of a script on a state, which may be made of the current parameters: a refused one leaves the state, or the zero state.
 // A call that can't refuse is answered the number 0.
 use crate::session::Session;
-use crate::shown::{count_shown, record_kept, yes_shown};
+use crate::shown::{record_kept, value_shown};
 use blake2b::State;
-use replay_text::{Answer, Fault, ROOM, Words};
+use replay_text::{Answer, Fault, ROOM, Shown, Words};
 
 #[derive(Clone, Copy)]
 pub enum StateCall<'a> {
@@ -44,11 +44,19 @@ impl Session {
             StateCall::New => record_kept(&mut self.state, Ok(State::new()), state),
             StateCall::Zero => record_kept(&mut self.state, Ok(State::zero()), state),
             StateCall::Open => record_kept(&mut self.state, self.params.to_state(), State::zero()),
-            StateCall::Update(message) => record_kept(&mut self.state, state.update(message), state),
-            StateCall::SetLastNode(yes) => record_kept(&mut self.state, state.set_last_node(yes), state),
+            StateCall::Update(message) => record_kept(
+                &mut self.state,
+                state.update(message),
+                state,
+            ),
+            StateCall::SetLastNode(yes) => record_kept(
+                &mut self.state,
+                state.set_last_node(yes),
+                state,
+            ),
             StateCall::Finalize => self.set_last(state.finalize(), room),
-            StateCall::Count => count_shown(state.count()),
-            StateCall::InRange => yes_shown(Ok(state.in_range())),
+            StateCall::Count => value_shown(state.count(), Shown::Count),
+            StateCall::InRange => Answer::accepted(Shown::Equal(state.in_range())),
         }
     }
 }

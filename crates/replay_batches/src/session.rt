@@ -7,7 +7,7 @@ use blake2b::Params;
 use many::{HashManyJob, MOST_JOBS, hash_many};
 use many_held::hash_through_job;
 use refusals::BatchRefusal;
-use replay::{count_shown, digest_shown, record_kept, written_shown};
+use replay::{digest_shown, record_kept, value_shown, written_shown};
 use replay_text::{Answer, ROOM, Shown};
 
 #[derive(Clone, Copy)]
@@ -123,7 +123,7 @@ impl Session {
             }
             BankCall::Digest(slot) => digest_shown(bank.digest(slot), room),
             BankCall::DigestTo { slot, length } => digest_to(bank, slot, length, room),
-            BankCall::Count(slot) => count_shown(bank.count(slot)),
+            BankCall::Count(slot) => value_shown(bank.count(slot), Shown::Count),
         }
     }
 }

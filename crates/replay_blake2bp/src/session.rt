@@ -2,8 +2,8 @@
 // The record that a call hands back becomes the current one; where it refused, what a refusal leaves does.
 use crate::call::{Call, ParamsCall, StateCall};
 use blake2bp::{Params, State, blake2bp};
-use replay::{count_shown, digest_shown, length_shown, record_kept, yes_shown};
-use replay_text::{Answer, ROOM};
+use replay::{digest_shown, record_kept, value_shown};
+use replay_text::{Answer, ROOM, Shown};
 
 #[derive(Clone, Copy)]
 pub struct Session {
@@ -39,7 +39,7 @@ impl Session {
                 params,
             ),
             ParamsCall::Key(key) => record_kept(&mut self.params, params.key(key), params),
-            ParamsCall::InRange => yes_shown(Ok(params.in_range())),
+            ParamsCall::InRange => Answer::accepted(Shown::Equal(params.in_range())),
         }
     }
 
@@ -55,10 +55,13 @@ impl Session {
                 state,
             ),
             StateCall::Finalize => digest_shown(state.finalize(), room),
-            StateCall::Count => count_shown(state.count().map(|count| count.0)),
-            StateCall::LeafCount => count_shown(state.leaf_count().map(|count| count.0)),
-            StateCall::Buffered => length_shown(state.buffered()),
-            StateCall::InRange => yes_shown(Ok(state.in_range())),
+            StateCall::Count => value_shown(state.count().map(|count| count.0), Shown::Count),
+            StateCall::LeafCount => value_shown(
+                state.leaf_count().map(|count| count.0),
+                Shown::Count,
+            ),
+            StateCall::Buffered => value_shown(state.buffered(), Shown::Length),
+            StateCall::InRange => Answer::accepted(Shown::Equal(state.in_range())),
         }
     }
 }

@@ -37,26 +37,3 @@ impl Bounds {
                 .is_some_and(|total| least <= total)
     }
 }
-
-// The same, of bounds as plain numbers.
-pub fn in_bounds(
-    most: usize,
-    room: usize,
-    unit: u64,
-    key: u64,
-    hash_length: u8,
-    buflen: usize,
-    count: u64,
-    is_keyed: bool,
-) -> bool
-    requires { 0 < unit }
-    ensures { result ≡ range_of (record { most = most; room = room; unit = unit; key = key; limit = limit }) hash_length buflen count is_keyed }
-{
-    Bounds {
-        most,
-        room,
-        unit,
-        key,
-    }
-    .admits(hash_length, buflen, count, is_keyed)
-}

@@ -7,9 +7,9 @@ ghost use Rattle.laws_blocks.specs.Blocks.{through_blocks};
 ghost use Rattle.guts.specs.Guts.{finalizes, is_last_node};
 ghost use Rattle.portable.specs.Strides.{padded_blockbytes};
 
-use crate::widths::{BLOCKBYTES, padded_blockbytes, zero_block};
+use crate::widths::{BLOCKBYTES, padded_blockbytes};
 use compression::compress_block;
-use guts::{Finalize, LastNode, Stride, final_block, final_facts, pad_final_block};
+use guts::{Finalize, LastNode, Stride, final_block, final_facts, pad_final_block, zeroed};
 
 // What a run of the loop hands back.
 #[derive(Clone, Copy)]
@@ -41,7 +41,7 @@ pub fn compress1_loop(
     ensures { result.words ≡ through_blocks BLAKE2b (padded_blockbytes stride) words count (finalizes finalize) (finalizes finalize && is_last_node last_node) input.now }
 {
     let row = padded_blockbytes(stride);
-    let mut buf = zero_block();
+    let mut buf = zeroed::<BLOCKBYTES>();
     pad_final_block(input, final_offset(input.len(), row), &mut buf);
     let padded = buf;
     let fin_last_block = finalize.yes();

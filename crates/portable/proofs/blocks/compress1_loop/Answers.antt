@@ -29,10 +29,10 @@ wide c = rw c.padded_blockbytes-row.ensures (row_wide c.args.stride)
 
 pub loop-offset-init : goal.loop-offset-init
 loop-offset-init c =
-    let long = ap length c.zero_block-buf.ensures ∙ length_zeros BLAKE2b.bb in
+    let long = ap length c.zeroed-buf.ensures ∙ length_zeros BLAKE2b.bb in
     record {
       within = omega arith;
-      reached = begun (ready (omega arith) (wide (goal.at.loop-offset-init c).After-padded_blockbytes-row) c.zero_block-buf.result long c.final_offset.ensures c.pad_final_block.ensures) _ _;
+      reached = begun (ready (omega arith) (wide (goal.at.loop-offset-init c).After-padded_blockbytes-row) c.zeroed-buf.result long c.final_offset.ensures c.pad_final_block.ensures) _ _;
     }
 
 and_true : {a x : Bool} (b : Bool) → a ≡ true → x ≡ b → x ≡ (a && b)

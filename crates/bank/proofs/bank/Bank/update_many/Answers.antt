@@ -38,10 +38,8 @@ loop-index-preserved c =
     let met = is_accepted c.feed.result c.in_ok-next.ensures.cases (λ d q. q) in
     let same : c.feed.result ≡ Ok c.in_ok-next.next = cc (met.1, met.2) in
     let fed = rw same at c.feed.ensures in
-    record {
-      sized = simp length-set i.invariant.sized;
-      left = ap batch_answer (batch_goes_on c.args.self i.slots _ i.index-counter c.args.data.now _ c.loop-index-test.true c.if-piece-ge-SLOTS.false _ (search rules) c.in_ok-next.next fed) ∙ i.invariant.left;
-    }
+    let on = batch_goes_on c.args.self i.slots _ i.index-counter c.args.data.now _ c.loop-index-test.true c.if-piece-ge-SLOTS.false _ (search rules) c.in_ok-next.next fed in
+    record { sized = simp length-set i.invariant.sized; left = ap batch_answer on ∙ i.invariant.left }
 
 pub returns : goal.returns
 returns c = batch_ends _ _ _ _ _ c.loop-index-test.false ∙ c.loop-index.invariant.left

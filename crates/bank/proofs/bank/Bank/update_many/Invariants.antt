@@ -8,7 +8,10 @@ use Rattle.bank.proofs.bank.Bank.update_many.Given as goal
 
 -- the records that are left, over the slots that those in front of them left
 abbrev pub invariant-loop-index : goal.invariant-loop-index
-invariant-loop-index l = record {
-  sized : length l.slots ≡ slot_limit;
-  left : batch_answer (batch slots slot_limit l.fn.self.slots l.slots l.index-counter (drop l.index-counter l.piece-items) l.data) ≡ batch_answer (told l.fn.self (update_many l.fn.pieces l.fn.used l.fn.data));
-}
+invariant-loop-index l =
+    let left_records = drop l.index-counter l.piece-items in
+    record {
+      sized : length l.slots ≡ slot_limit;
+      left : batch_answer (batch slots slot_limit l.fn.self.slots l.slots l.index-counter left_records l.data)
+          ≡ batch_answer (told l.fn.self (update_many l.fn.pieces l.fn.used l.fn.data));
+    }

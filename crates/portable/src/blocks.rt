@@ -48,8 +48,9 @@ pub fn compress1_loop(
     let fin_last_node = fin_last_block && last_node.yes();
     let mut local_words = words;
     let mut local_count = count;
-    let mut offset = 0;
-    loop {
+    // No bytes are one empty block.
+    let end = input.len().max(1);
+    for offset in (0..end).step_by(row) {
         let facts = final_facts(input, offset, BLOCKBYTES, row);
         let last = facts.may_finalize;
         local_count += facts.len as u64;
@@ -60,9 +61,6 @@ pub fn compress1_loop(
             last && fin_last_block,
             last && fin_last_node,
         );
-        if last {
-            return Compressed { words: local_words };
-        }
-        offset += row;
     }
+    Compressed { words: local_words }
 }

@@ -2,16 +2,17 @@
 -- Assumes nothing.
 use mathlib.Core.Path.{◌≡◌, refl, sym, ap, ◌∙◌}
 use mathlib.Core.Bool.{Bool, true, false, ◌&&◌}
-use Prim.Native.Nat.{ℕ, ◌+◌, ◌*◌, ◌/◌, ◌%◌, ◌^◌, ◌≤◌, min}
+use Prim.Native.Nat.{ℕ, ◌+◌, ◌*◌, ◌/◌, ◌%◌, ◌^◌, ◌-◌, ◌<◌, ◌≤◌, min}
 use native.Mathlib.Omega.{arith}
+use borrow.Author.Tests.{leb-true, leb-false}
 use lib.Dec.{leb}
-use lib.ListN.{length, drop}
+use lib.ListN.{length, drop, length-drop}
 use Rattle.definitions.specs.Family.{BLAKE2b}
 use Rattle.definitions.specs.Compress.{F}
 use Rattle.definitions.specs.Hash.{words}
 use Rattle.laws_words.proofs.Bytes.{length_zeros}
 use Rattle.laws_blocks.specs.Blocks.{through_blocks}
-use Rattle.laws_blocks.proofs.Turns.{Turned, buffer_long, ready, begun, block_long, count_fits, turned}
+use Rattle.laws_blocks.proofs.Turns.{Turned, ready, begun, block_long, count_fits, turned}
 use Rattle.guts.specs.declared.FinalFacts.{FinalFacts}
 use Rattle.guts.specs.Guts.{finalizes, is_last_node}
 use Rattle.portable.proofs.Strides.{row_wide}
@@ -19,17 +20,20 @@ use Rattle.portable.proofs.blocks.compress1_loop.Goals as goal
 use Rattle.portable.proofs.blocks.compress1_loop.Goals.{After-compress_block-local_words, After-final_facts-facts, After-padded_blockbytes-row, then-fin_last_block, else-fin_last_block, then-last, else-last, then-last-2, else-last-2}
 
 facts : (c : After-final_facts-facts)
-    → let left = length (drop c.loop-local_words.offset c.args.input.now) in
+    → let left = length (drop c.loop-offset.offset c.args.input.now) in
     (c.final_facts-facts.result.len ≡ min BLAKE2b.bb left) × (c.final_facts-facts.result.may_finalize ≡ leb left c.padded_blockbytes-row.result)
 facts c = let e = c.final_facts-facts.ensures in (ap (λ (r : FinalFacts). r.len) e, ap (λ (r : FinalFacts). r.may_finalize) e)
 
 wide : (c : After-padded_blockbytes-row) → BLAKE2b.bb ≤ c.padded_blockbytes-row.result
 wide c = rw c.padded_blockbytes-row.ensures (row_wide c.args.stride)
 
-pub loop-local_words-init : goal.loop-local_words-init
-loop-local_words-init c =
+pub loop-offset-init : goal.loop-offset-init
+loop-offset-init c =
     let long = ap length c.zero_block-buf.ensures ∙ length_zeros BLAKE2b.bb in
-    begun (ready (omega arith) (wide (goal.at.loop-local_words-init c).After-padded_blockbytes-row) c.zero_block-buf.result long c.final_offset.ensures c.pad_final_block.ensures) _ _
+    record {
+      within = omega arith;
+      reached = begun (ready (omega arith) (wide (goal.at.loop-offset-init c).After-padded_blockbytes-row) c.zero_block-buf.result long c.final_offset.ensures c.pad_final_block.ensures) _ _;
+    }
 
 and_true : {a x : Bool} (b : Bool) → a ≡ true → x ≡ b → x ≡ (a && b)
 and_true b t e = e ∙ ap (λ (p : Bool). p && b) (sym t)
@@ -61,33 +65,54 @@ two_words t = omega arith
 turn : (c : After-compress_block-local_words)
     → Turned BLAKE2b c.args.input.now c.padded_blockbytes-row.result c.pad_final_block.new.buffer
     c.args.count c.args.words c.yes-fin_last_block.result c.if-fin_last_block.fin_last_node
-    c.final_facts-facts.result.may_finalize c.compress_block-local_words.result (c.loop-local_words.local_count + c.final_facts-facts.result.len) c.loop-local_words.offset
+    c.final_facts-facts.result.may_finalize c.compress_block-local_words.result (c.loop-offset.local_count + c.final_facts-facts.result.len) c.loop-offset.offset
 turn c =
     let e = facts (goal.at.After-compress_block-local_words c).After-final_facts-facts in
-    let l = c.loop-local_words in
+    let l = c.loop-offset in
     let at_count = c.compress_block-local_words.ensures
     ∙ ap (λ (t : ℕ). F BLAKE2b l.local_words (words BLAKE2b 16 c.final_block.result.now) t c.if-last.compress_block c.if-last-2.compress_block)
     (c.from.ensures ∙ two_words (l.local_count + c.final_facts-facts.result.len)) in
-    turned l.invariant _ _ e.0 e.1 c.final_block.ensures refl refl (block_flag c) (node_flag c) at_count
+    turned l.invariant.reached _ _ e.0 e.1 c.final_block.ensures refl refl (block_flag c) (node_flag c) at_count
 
-pub returns-then-last-3 : goal.returns-then-last-3
-returns-then-last-3 c =
+true_if : (b : Bool) → (b ≡ false → ⊥) → b ≡ true
+true_if true f = refl
+true_if false f = absurd (f refl)
+
+false_if : (b : Bool) → (b ≡ true → ⊥) → b ≡ false
+false_if true f = absurd (f refl)
+false_if false f = refl
+
+-- the last block is the one behind which no other begins below the end
+last : (c : After-compress_block-local_words) → c.max-end.result - c.loop-offset.offset ≤ c.padded_blockbytes-row.result → c.final_facts-facts.result.may_finalize ≡ true
+last c h =
+    let d = c.args.input.now in
+    let o = c.loop-offset.offset in
+    let e = (facts (goal.at.After-compress_block-local_words c).After-final_facts-facts).1 in
+    true_if _ (λ f. let l = leb-false (length (drop o d)) c.padded_blockbytes-row.result (sym e ∙ f) in omega (arith, length-drop o d))
+
+not_last : (c : After-compress_block-local_words) → c.loop-offset.offset + c.padded_blockbytes-row.result < c.max-end.result → c.final_facts-facts.result.may_finalize ≡ false
+not_last c h =
+    let d = c.args.input.now in
+    let o = c.loop-offset.offset in
+    let w = wide (goal.at.After-compress_block-local_words c).After-padded_blockbytes-row in
+    let e = (facts (goal.at.After-compress_block-local_words c).After-final_facts-facts).1 in
+    false_if _ (λ t. let l = leb-true (length (drop o d)) c.padded_blockbytes-row.result (sym e ∙ t) in omega (arith, length-drop o d))
+
+pub returns-after-last-2 : goal.returns-after-last-2
+returns-after-last-2 c =
     let a = c.args in
-    (turn (goal.at.returns-then-last-3 c).After-compress_block-local_words).ends c.if-last-3.true
-    ∙ (λ i. through_blocks BLAKE2b (c.padded_blockbytes-row.ensures i) a.words a.count (c.yes-fin_last_block.ensures i)
-    (node (goal.at.returns-then-last-3 c).After-compress_block-local_words i) a.input.now)
+    let t = (goal.at.returns-after-last-2 c).After-compress_block-local_words in
+    (turn t).ends (last t (omega arith))
+    ∙ (λ i. through_blocks BLAKE2b (c.padded_blockbytes-row.ensures i) a.words a.count (c.yes-fin_last_block.ensures i) (node t i) a.input.now)
 
-pub loop-local_words-preserved : goal.loop-local_words-preserved
-loop-local_words-preserved c = (turn (goal.at.loop-local_words-preserved c).After-compress_block-local_words).goes_on c.if-last-3.false
-
-pub final_offset-requires : goal.final_offset-requires
-final_offset-requires c = let w = wide (goal.at.final_offset-requires c).After-padded_blockbytes-row in omega arith
-
-pub overflow_add-local_count : goal.overflow_add-local_count
-overflow_add-local_count c = record { fits = count_fits c.loop-local_words.invariant (facts c).0 (2 ^ 64) c.requires }
-
-pub slice_bounds-final_block-end : goal.slice_bounds-final_block-end
-slice_bounds-final_block-end c = sym (buffer_long c.loop-local_words.invariant.ready)
+pub loop-offset-preserved : goal.loop-offset-preserved
+loop-offset-preserved c =
+    let t = (goal.at.loop-offset-preserved c).After-compress_block-local_words in
+    let more : c.loop-offset.offset + c.padded_blockbytes-row.result < c.max-end.result = omega arith in
+    record { within = more; reached = (turn t).goes_on (not_last t more) }
 
 pub compress_block-local_words-requires : goal.compress_block-local_words-requires
-compress_block-local_words-requires c = block_long c.loop-local_words.invariant c.final_block.ensures
+compress_block-local_words-requires c = block_long c.loop-offset.invariant.reached c.final_block.ensures
+
+pub overflow_add-local_count : goal.overflow_add-local_count
+overflow_add-local_count c = record { fits = count_fits c.loop-offset.invariant.reached (facts c).0 (2 ^ 64) c.requires }

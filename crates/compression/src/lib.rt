@@ -86,8 +86,7 @@ fn round(v: [u64; 16], m: &[u64; 16], i: usize) -> [u64; 16]
     diagonals(columns(v, x), x)
 }
 
-// The twelve rounds on the message words m, written out: in a loop over them the compiler reads SIGMA while it runs, and a block takes 1.44
-// times as long.
+// The twelve rounds on the message words m, written out: a loop over them reads SIGMA for each block, and takes 1.44 times as long.
 fn rounds(v0: [u64; 16], m: &[u64; 16]) -> [u64; 16]
     ensures { result ≡ rounds_to BLAKE2b 12 m.now v0 }
 {

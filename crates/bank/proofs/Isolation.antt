@@ -16,7 +16,7 @@ use Rattle.blake2b.specs.Row.{row_taker}
 use Rattle.blake2b_state.specs.State.{total, state_in_range, updated}
 use Rattle.blake2b.specs.declared.params.Params.{Params}
 use Rattle.blake2b_state.specs.declared.state.State.{State}
-use Rattle.blake2b_state.specs.declared.state.StateAnswer.{StateAnswer}
+use Rattle.blake2b_state.specs.Answers.{StateAnswer}
 use Rattle.bank.specs.Rules.{Ask, Call, on, update_many, at, answers, after}
 use Rattle.bank.specs.Made.{All, Made}
 use Rattle.bank.specs.Apart.{Spared, of_slot, answers_on, only_on}

@@ -7,6 +7,7 @@ pub mod History
 pub mod Isolation
 pub mod Records
 pub mod Replies
+pub mod Results
 pub mod Steps
 pub mod Unique
 pub mod Written

@@ -1,76 +1,35 @@
 -- What the bank's functions make of a slot's answers is a step of the rules, call by call.
 -- Assumes nothing.
-use mathlib.Core.Path.{◌≡◌, refl, sym, ◌∙◌}
-use mathlib.Core.Bool.{Bool, true, false, not, and-false}
-use mathlib.Core.List.{List, [], ◌∷◌, map}
-use Prim.Native.Nat.{ℕ, zero, suc, ◌+◌, ◌<◌, ◌≤◌}
-use native.Mathlib.Numerals.{add-one}
-use native.Mathlib.Omega.{arith}
-use borrow.Author.Tests.{not-true, not-false, lt-ltb, le-ltb, eq-eqb, ne_eqb}
-use lib.ListN.{length, get_or, set, drop, drop_of_length-le, length-map}
-use lib.Seq.{drop-cons}
+use mathlib.Core.Path.{◌≡◌, refl, sym, ap, ◌∙◌}
+use mathlib.Core.Bool.{◌&&◌, and-false}
+use mathlib.Core.List.{List, [], ◌∷◌}
+use Prim.Native.Nat.{ℕ, ◌<◌}
+use borrow.Author.Tests.{ne_eqb}
+use lib.ListN.{length, get_or, set}
+use lib.Seq.{set-get_or}
+use Rattle.std.specs.Prelude.{Bool, true, false, Ok, Err}
+use Rattle.std.specs.List.{list_all}
+use Rattle.std.proofs.lemmas.List.{get_or_default}
 use Rattle.definitions.specs.Words.{pad}
 use Rattle.laws_words.specs.Bytes.{zeros}
-use Rattle.refusals.specs.Numbers.{accepted, slot_number, bad_record}
-use Rattle.hash.specs.Hash.{zero_hash}
-use Rattle.hash.specs.declared.Hash.{Hash}
+use Rattle.refusals.specs.Numbers.{accepted}
+use Rattle.refusals.specs.Answers.{number_of}
+use Rattle.refusals.specs.declared.refusal.Refusal.{Refusal}
+use Rattle.refusals.specs.declared.refusal.Refusal.TheVariants.{Record}
+use Rattle.refusals.proofs.Settled.{never_accepted}
+use Rattle.bank.specs.Answers.{as_slot_answer, as_bank_answer, SlotAnswer}
+use Rattle.hash.specs.Answers.{as_hash_answer}
+use Rattle.blake2b_state.specs.Answers.{as_count_answer}
 use Rattle.bank.specs.Rules.{Ask, opening, update, digest, digest_to, count, close, on, refusal, reply, every, good_ask, at, fault, step}
 use Rattle.bank.specs.Slots.{slots, slot_limit, told, bank_answer, slot_answer, hash_answer, count_answer}
 use Rattle.bank.specs.declared.bank.Bank.{Bank}
-use Rattle.bank.specs.declared.bank.BankAnswer.{BankAnswer}
 use Rattle.bank.specs.declared.slot.Slot.{Slot}
-use Rattle.bank.specs.declared.slot.SlotAnswer.{SlotAnswer}
-use Rattle.bank.proofs.Records.{no_fault_means}
 
--- an element that is there, whatever stands for one that is not
-pub any_default : {X : Type 0} (xs : List X) (k : ℕ) (d e : X) → k < length xs → get_or xs k d ≡ get_or xs k e
-any_default [] k d e h = absurd (omega arith)
-any_default (x ∷ xs) zero d e h = refl
-any_default (x ∷ xs) (suc k) d e h = any_default xs k d e (omega arith)
-
--- the length of an array of records, of what is known of the array
-pub unmapped : {X Y : Type 0} (f : X → Y) (xs : List X) (n : ℕ) → length (map f xs) ≡ n → length xs ≡ n
-unmapped f xs n e = sym (length-map xs f) ∙ e
-
--- a test of every element, from one on
-module _ {X : Type 0} (good : X → Bool) (xs : List X) (i : ℕ) where
-  pub every_stops : (d : X) → i < length xs → {b : Bool} → b ≡ good (get_or xs i d) → not b ≡ true → false ≡ every good (drop i xs)
-  unfolding every
-  every_stops d h {b} e f = rw (drop-cons xs i d h, ← e, not-true b f)
-
-  pub every_goes_on : (d : X) → i < length xs → {b : Bool} → b ≡ good (get_or xs i d) → not b ≡ false → every good (drop i xs) ≡ every good (drop (i + 1) xs)
-  unfolding every
-  every_goes_on d h {b} e f = rw (drop-cons xs i d h, ← e, not-false b f) (rw (add-one i))
-
-  pub every_ends : length xs ≤ i → true ≡ every good (drop i xs)
-  unfolding every
-  every_ends h = rw (drop_of_length-le xs {i = i} h)
-
--- 14, then 7
-module _ (xs : List Slot) (good : Bool) (k : ℕ) {all : Bool} (e : all ≡ every slots.good xs) where
-  pub bad_slots : not all ≡ true → bad_record ≡ fault slots slot_limit xs good k
-  unfolding fault
-  bad_slots h = rw (← e, not-true all h)
-
-  pub bad_params : good ≡ false → bad_record ≡ fault slots slot_limit xs good k
-  unfolding fault
-  bad_params h = rw (h, and-false)
-
-  pub bad_slot_number : not all ≡ false → good ≡ true → slot_limit ≤ k → slot_number ≡ fault slots slot_limit xs good k
-  unfolding fault
-  bad_slot_number h g l = rw (← e, not-false all h, g, le-ltb k slot_limit l)
-
-  pub no_fault : not all ≡ false → good ≡ true → k < slot_limit → accepted ≡ fault slots slot_limit xs good k
-  unfolding fault
-  no_fault h g l = rw (← e, not-false all h, g, lt-ltb k slot_limit l)
-
--- what no fault means
-module _ (xs : List Slot) (good : Bool) (k : ℕ) {f : ℕ} (e : f ≡ fault slots slot_limit xs good k) (z : f ≡ accepted) where
-  pub within_slots : k < slot_limit
-  within_slots = (no_fault_means slots slot_limit xs good k (sym e ∙ z)).2
-
-  pub good_params : good ≡ true
-  good_params = (no_fault_means slots slot_limit xs good k (sym e ∙ z)).1
+-- a test of every element is the library's
+pub every_is : {X : Type 0} (good : X → Bool) (xs : List X) → list_all good xs ≡ every good xs
+unfolding every
+every_is good [] = refl
+every_is good (x ∷ xs) = ap (λ (b : Bool). good x && b) (every_is good xs)
 
 refusal_number : (ask : Ask) (n : ℕ) → (refusal ask n).number ≡ n
 refusal_number (opening p) n = refl
@@ -80,30 +39,56 @@ refusal_number (digest_to out) n = refl
 refusal_number count n = refl
 refusal_number close n = refl
 
--- a call on one slot
-module _ (b : Bank) (k : ℕ) (ask : Ask) {f : ℕ} (e : f ≡ fault slots slot_limit b.slots (good_ask ask) k) where
-  pub call_refused : (f ≡ accepted → ⊥) → record { number = f; bank = b } ≡ bank_answer (told b (on k ask))
-  unfolding step
-  call_refused h = rw (← e, ne_eqb f accepted h, refusal_number ask f)
+-- a call on one slot whose parameters are bad
+pub params_refused : (b : Bank) (k : ℕ) (ask : Ask) → false ≡ good_ask ask → as_bank_answer b (Err Record) ≡ bank_answer (told b (on k ask))
+unfolding step fault
+params_refused b k ask bad = rw (← bad, and-false, refusal_number ask (number_of Record))
 
-  pub call_answered : f ≡ accepted → {s : Slot} → s ≡ at slots b.slots k → {a : SlotAnswer} → a ≡ slot_answer (reply slots s ask) → {r : BankAnswer}
-      → r ≡ record { number = a.number; bank = record { slots = set b.slots k a.slot } } → r ≡ bank_answer (told b (on k ask))
-  unfolding step
-  call_answered h s-is a-is q = rw (← e, eq-eqb f accepted h) (q ∙ rw (a-is, s-is))
+-- a call on one slot, with good parameters or none
+module _ (b : Bank) (k : ℕ) (ask : Ask) (good : true ≡ good_ask ask) where
+  -- that is refused before the slot is asked
+  module _ (e : Refusal) (f : number_of e ≡ fault slots slot_limit b.slots true k) where
+    pub answer_refused : (told b (on k ask)).answer ≡ refusal ask (number_of e)
+    unfolding step
+    answer_refused = rw (← good, ← f, ne_eqb (number_of e) accepted (never_accepted e))
 
-  pub answer_of_slot : f ≡ accepted → {s : Slot} → s ≡ at slots b.slots k → (reply slots s ask).answer ≡ (told b (on k ask)).answer
-  unfolding step
-  answer_of_slot h g = rw (← e, eq-eqb f accepted h, g)
+    pub call_refused : as_bank_answer b (Err e) ≡ bank_answer (told b (on k ask))
+    unfolding step
+    call_refused = rw (← good, ← f, ne_eqb (number_of e) accepted (never_accepted e), refusal_number ask (number_of e))
 
-  pub answer_refused : (f ≡ accepted → ⊥) → (told b (on k ask)).answer ≡ refusal ask f
-  unfolding step
-  answer_refused h = rw (← e, ne_eqb f accepted h)
+  -- that its slot answers
+  module _ (f : accepted ≡ fault slots slot_limit b.slots true k) (there : k < length b.slots) (d : Slot) where
+    here : get_or b.slots k d ≡ at slots b.slots k
+    here = get_or_default b.slots k d slots.closed there
 
-pub hash_refused : (b : Bank) (k : ℕ) {f : ℕ} → f ≡ fault slots slot_limit b.slots true k → (f ≡ accepted → ⊥) → {z : Hash} → z ≡ zero_hash
-    → record { number = f; hash = z } ≡ hash_answer (told b (on k digest)).answer
-unfolding pad zeros
-hash_refused b k e h g = rw (answer_refused b k digest e h, g)
+    pub answer_of_slot : (reply slots (get_or b.slots k d) ask).answer ≡ (told b (on k ask)).answer
+    unfolding step
+    answer_of_slot = rw (← good, ← f, here)
 
-pub count_refused : (b : Bank) (k : ℕ) {f : ℕ} → f ≡ fault slots slot_limit b.slots true k → (f ≡ accepted → ⊥)
-    → record { number = f; count = 0 } ≡ count_answer (told b (on k count)).answer
-count_refused b k e h = rw (answer_refused b k count e h)
+    pub slot_refused : (e : Refusal) → as_slot_answer (get_or b.slots k d) (Err e) ≡ slot_answer (reply slots (get_or b.slots k d) ask)
+        → as_bank_answer b (Err e) ≡ bank_answer (told b (on k ask))
+    unfolding step
+    slot_refused e a =
+        let s : Slot = get_or b.slots k d in
+        let number : number_of e ≡ (reply slots s ask).answer.number = ap (λ (x : SlotAnswer). x.number) a in
+        let kept : s ≡ (reply slots s ask).slot = ap (λ (x : SlotAnswer). x.slot) a in
+        let back : set b.slots k (reply slots s ask).slot ≡ b.slots = ap (set b.slots k) (sym kept) ∙ set-get_or b.slots k d in
+        rw (← good, ← f, ← here, ← number, back)
+
+    pub slot_changed : (t : Slot) {next : Bank} → as_slot_answer (get_or b.slots k d) (Ok t) ≡ slot_answer (reply slots (get_or b.slots k d) ask)
+        → next ≡ record { slots = set b.slots k t } → as_bank_answer b (Ok next) ≡ bank_answer (told b (on k ask))
+    unfolding step
+    slot_changed t a e =
+        let s : Slot = get_or b.slots k d in
+        let number : accepted ≡ (reply slots s ask).answer.number = ap (λ (x : SlotAnswer). x.number) a in
+        let changed : t ≡ (reply slots s ask).slot = ap (λ (x : SlotAnswer). x.slot) a in
+        rw (← good, ← f, ← here, ← number, ← changed, e)
+
+-- a digest and a count hand no bank back
+module _ (b : Bank) (k : ℕ) (e : Refusal) (f : number_of e ≡ fault slots slot_limit b.slots true k) where
+  pub hash_refused : as_hash_answer (Err e) ≡ hash_answer (told b (on k digest)).answer
+  unfolding pad zeros
+  hash_refused = rw (answer_refused b k digest refl e f)
+
+  pub count_refused : as_count_answer (Err e) ≡ count_answer (told b (on k count)).answer
+  count_refused = rw (answer_refused b k count refl e f)

@@ -8,10 +8,14 @@ use native.Mathlib.Omega.{arith}
 use borrow.Author.Tests.{eqb-false, eq-eqb, ne_eqb}
 use lib.Dec.{eqb}
 use lib.ListN.{length}
+use Rattle.std.specs.Prelude.{Ok, Err}
 use Rattle.refusals.specs.Numbers.{accepted, slot_closed}
+use Rattle.refusals.specs.Answers.{number_of}
+use Rattle.refusals.specs.declared.refusal.Refusal.{Refusal}
+use Rattle.refusals.proofs.Settled.{never_accepted}
+use Rattle.hash.specs.Answers.{HashAnswer, LengthAnswer, as_hash_answer, as_length_answer}
+use Rattle.hash.specs.declared.Hash.{Hash}
 use Rattle.hash.specs.Hash.{is_digest_length, hash_in_range, hash_of, digest_of, written_answered, written_over}
-use Rattle.hash.specs.declared.LengthAnswer.{LengthAnswer}
-use Rattle.hash.specs.declared.HashAnswer.{HashAnswer}
 use Rattle.hash.proofs.Digests.{digest_of_hash}
 use Rattle.blake2b_state.proofs.Lengths.{digest_sized}
 use Rattle.members.specs.Row.{numbered}
@@ -60,25 +64,24 @@ module _ (b : Bank) (k : ℕ) where
       split true e = rw e (reply_sized (at slots b.slots k) (rw e at z))
       split false e = absurd (eqb-false (fault slots slot_limit b.slots true k) accepted e (rw e at z))
 
-  module _ (out : List ℕ) {h : HashAnswer} (e : h ≡ hash_answer (told b (on k digest)).answer) where
-    number_is : h.number ≡ (told b (on k digest)).answer.number
-    number_is = ap (λ (a : HashAnswer). a.number) e
-
-    pub output_refused : (h.number ≡ accepted → ⊥)
-        → (record { number = h.number; length = 0 } ≡ length_answer (told b (on k (digest_to out))).answer) × (out ≡ (told b (on k (digest_to out))).answer.bytes)
+  module _ (out : List ℕ) where
+    pub output_refused : (e : Refusal) → as_hash_answer (Err e) ≡ hash_answer (told b (on k digest)).answer
+        → (as_length_answer (Err e) ≡ length_answer (told b (on k (digest_to out))).answer) × (out ≡ (told b (on k (digest_to out))).answer.bytes)
     unfolding written
-    output_refused z =
-        let f : eqb (told b (on k digest)).answer.number accepted ≡ false = ne_eqb _ accepted (λ q. z (number_is ∙ q)) in
-        (rw (told_written out, f, number_is), rw (told_written out, f))
+    output_refused e r =
+        let number : number_of e ≡ (told b (on k digest)).answer.number = ap (λ (a : HashAnswer). a.number) r in
+        let f : eqb (told b (on k digest)).answer.number accepted ≡ false = ne_eqb _ accepted (λ q. never_accepted e (number ∙ q)) in
+        (rw (told_written out, f, number), rw (told_written out, f))
 
-    pub output_written : h.number ≡ accepted → {a : LengthAnswer} {to : List ℕ}
-        → a ≡ written_answered h.hash (length (digest_of h.hash)) (length out) → to ≡ written_over h.hash (digest_of h.hash) out
+    pub output_written : (h : Hash) → as_hash_answer (Ok h) ≡ hash_answer (told b (on k digest)).answer → {a : LengthAnswer} {to : List ℕ}
+        → a ≡ written_answered h (length (digest_of h)) (length out) → to ≡ written_over h (digest_of h) out
         → (a ≡ length_answer (told b (on k (digest_to out))).answer) × (to ≡ (told b (on k (digest_to out))).answer.bytes)
     unfolding written written_answered written_over hash_in_range
-    output_written z f g =
+    output_written h r f g =
         let d : List ℕ = (told b (on k digest)).answer.bytes in
-        let s : is_digest_length (length d) ≡ true = told_sized (sym number_is ∙ z) in
-        let q : eqb (told b (on k digest)).answer.number accepted ≡ true = eq-eqb _ accepted (sym number_is ∙ z) in
-        let y : h.hash ≡ hash_of d = ap (λ (x : HashAnswer). x.hash) e in
+        let number : accepted ≡ (told b (on k digest)).answer.number = ap (λ (a : HashAnswer). a.number) r in
+        let s : is_digest_length (length d) ≡ true = told_sized (sym number) in
+        let q : eqb (told b (on k digest)).answer.number accepted ≡ true = eq-eqb _ accepted (sym number) in
+        let y : h ≡ hash_of d = ap (λ (a : HashAnswer). a.hash) r in
         let x : digest_of (hash_of d) ≡ d = digest_of_hash d in
         (f ∙ rw (told_written out, q, y, x, s), g ∙ rw (told_written out, q, y, x, s))

@@ -1,3 +1,4 @@
+pub mod Answers
 pub mod Rules
 pub mod Table
 pub mod Slots

@@ -5,7 +5,7 @@ use Rattle.refusals.specs.Numbers.{accepted, slot_number, slot_closed, piece_out
 use Rattle.refusals.specs.Tests.{Test, test, tested, first}
 use Rattle.members.specs.Row.{Answer, numbered, Taker}
 use Rattle.hash.specs.Output.{wrote, wrote_over}
-use Rattle.hash.specs.declared.LengthAnswer.{LengthAnswer}
+use Rattle.hash.specs.Answers.{LengthAnswer}
 use Rattle.blake2b.specs.Params.{in_range}
 use Rattle.blake2b.specs.declared.params.Params.{Params}
 use Rattle.bank.specs.declared.piece.Piece.{Piece}

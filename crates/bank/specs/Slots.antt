@@ -6,16 +6,13 @@ use Rattle.hash.specs.Hash.{hash_of}
 use Rattle.blake2b_state.specs.State.{state_in_range, zero_state}
 use Rattle.blake2b.specs.Member.{fresh}
 use Rattle.blake2b.specs.Row.{state_taker}
-use Rattle.hash.specs.declared.HashAnswer.{HashAnswer}
-use Rattle.hash.specs.declared.LengthAnswer.{LengthAnswer}
+use Rattle.hash.specs.Answers.{HashAnswer, LengthAnswer}
 use Rattle.blake2b_state.specs.declared.state.State.{State}
-use Rattle.blake2b_state.specs.declared.state.CountAnswer.{CountAnswer}
+use Rattle.blake2b_state.specs.Answers.{CountAnswer}
 use Rattle.bank.specs.Rules.{Reply, Result, Kind, slot_taker, Call, step}
 use Rattle.bank.specs.declared.slot.Slot.{Slot}
-use Rattle.bank.specs.declared.slot.SlotAnswer.{SlotAnswer}
+use Rattle.bank.specs.Answers.{SlotAnswer, BankAnswer, BatchAnswer}
 use Rattle.bank.specs.declared.bank.Bank.{Bank}
-use Rattle.bank.specs.declared.bank.BankAnswer.{BankAnswer}
-use Rattle.bank.specs.declared.bank.BatchAnswer.{BatchAnswer}
 
 abbrev pub closed_slot : Slot
 closed_slot = record { is_open = false; state = zero_state }

@@ -6,5 +6,5 @@ mod bank;
 mod piece;
 mod slot;
 
-pub use bank::{Bank, BankAnswer, BatchAnswer, MOST_RECORDS, SLOTS};
+pub use bank::{Bank, MOST_RECORDS, SLOTS};
 pub use piece::Piece;

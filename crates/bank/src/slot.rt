@@ -1,13 +1,17 @@
 // One slot: a state, and whether the slot is open. A closed slot is zeros.
 // The bank has checked 14 and 7 before a slot is asked.
-ghost use Rattle.std.specs.Prelude.{◌≡◌, true};
+ghost use Rattle.std.specs.Prelude.{◌≡◌, true, false, IfOk, IfErr};
+ghost use Rattle.refusals.specs.declared.refusal.Refusal.TheVariants.{Closed};
 ghost use Rattle.blake2b.specs.Params.{in_range};
+ghost use Rattle.hash.specs.Answers.{as_hash_answer};
+ghost use Rattle.blake2b_state.specs.Answers.{as_count_answer};
+ghost use Rattle.bank.specs.Answers.{as_slot_answer};
 ghost use Rattle.bank.specs.Rules.{reply, fed, opening, update, digest, count, close};
 ghost use Rattle.bank.specs.Slots.{closed_slot, slot_good, slots, slot_answer, hash_answer, count_answer};
 
-use crate::piece::{Piece, place_fault};
-use blake2b::{CountAnswer, Hash, HashAnswer, Params, State};
-use refusals::{ACCEPTED, CLOSED, OPEN, piece_ok};
+use crate::piece::Piece;
+use blake2b::{Hash, Params, State};
+use refusals::Refusal;
 
 #[derive(Clone, Copy)]
 pub struct Slot {
@@ -15,131 +19,88 @@ pub struct Slot {
     pub(crate) state: State,
 }
 
-#[derive(Clone, Copy)]
-pub struct SlotAnswer {
-    pub number: u8,
-    pub slot: Slot,
-}
-
 impl Slot {
     pub(crate) fn closed() -> Self
         ensures { result ≡ closed_slot }
     {
-        let state = State::zero();
         Slot {
             is_open: false,
-            state,
+            state: State::zero(),
         }
     }
 
     // Whether the record keeps its stated ranges: a closed one does.
+    #[tactic(auto, unfolding(crate::specs::Slots::slot_good))]
     pub(crate) fn in_range(self) -> bool
         ensures { result ≡ slot_good self }
     {
-        if self.is_open {
-            let state = self.state;
-            return state.in_range();
-        }
-        true
+        !self.is_open || self.state.in_range()
     }
 
-    pub(crate) fn open(self, params: Params) -> SlotAnswer
+    #[tactic(auto, unfolding(crate::specs::Rules::reply, blake2b::specs::Member::opened))]
+    pub(crate) fn open(self, params: Params) -> Result<Slot, Refusal>
         requires { in_range params ≡ true }
-        ensures { result ≡ slot_answer (reply slots self (opening params)) }
+        ensures { as_slot_answer self result ≡ slot_answer (reply slots self (opening params)) }
     {
         if self.is_open {
-            return SlotAnswer {
-                number: OPEN,
-                slot: self,
-            };
+            return Err(Refusal::Open);
         }
-        let state = params.to_state().state;
-        SlotAnswer {
-            number: ACCEPTED,
-            slot: Slot {
-                is_open: true,
-                state,
-            },
-        }
+        let state = params.to_state()?;
+        Ok(Slot {
+            is_open: true,
+            state,
+        })
     }
 
-    pub(crate) fn update(self, input: &[u8]) -> SlotAnswer
-        ensures { result ≡ slot_answer (reply slots self (update input.now)) }
+    // The state of an open slot.
+    fn opened(self) -> Result<State, Refusal>
+        ensures ok { IfOk result (λ state. (self.is_open ≡ true) × (state ≡ self.state)) }
+        ensures err { IfErr result (λ refusal. (self.is_open ≡ false) × (refusal ≡ Closed)) }
     {
         if !self.is_open {
-            return SlotAnswer {
-                number: CLOSED,
-                slot: self,
-            };
+            return Err(Refusal::Closed);
         }
-        let state = self.state;
-        let taken = state.update(input);
-        let next = taken.state;
-        SlotAnswer {
-            number: taken.number,
-            slot: Slot {
-                is_open: true,
-                state: next,
-            },
-        }
+        Ok(self.state)
+    }
+
+    #[tactic(auto, unfolding(crate::specs::Rules::reply))]
+    pub(crate) fn update(self, input: &[u8]) -> Result<Slot, Refusal>
+        ensures { as_slot_answer self result ≡ slot_answer (reply slots self (update input.now)) }
+    {
+        let state = self.opened()?.update(input)?;
+        Ok(Slot {
+            is_open: true,
+            state,
+        })
     }
 
     // A record of a batch that is for this slot.
-    pub(crate) fn feed(self, piece: Piece, data: &[u8]) -> SlotAnswer
-        ensures { result ≡ slot_answer (fed slots self piece «data».now) }
+    #[tactic(auto, using(crate::proofs::Replies::piece_is), unfolding(crate::specs::Rules::fed, crate::specs::Rules::reply, crate::specs::Rules::place_fault))]
+    pub(crate) fn feed(self, piece: Piece, data: &[u8]) -> Result<Slot, Refusal>
+        ensures { as_slot_answer self result ≡ slot_answer (fed slots self piece «data».now) }
     {
-        let start = piece.start;
-        let length = piece.length;
-        let number = place_fault(self.is_open, piece_ok(start, length, data.len()));
-        if number != ACCEPTED {
-            return SlotAnswer { number, slot: self };
-        }
-        let end = start + length;
-        self.update(&data[start..end])
+        piece.check(self.is_open, data.len())?;
+        self.update(&data[piece.start..piece.start + piece.length])
     }
 
-    pub(crate) fn digest(self) -> HashAnswer
-        ensures { result ≡ hash_answer (reply slots self digest).answer }
+    pub(crate) fn digest(self) -> Result<Hash, Refusal>
+        ensures { as_hash_answer result ≡ hash_answer (reply slots self digest).answer }
     {
-        if !self.is_open {
-            return HashAnswer {
-                number: CLOSED,
-                hash: Hash::zero(),
-            };
-        }
-        let state = self.state;
-        state.finalize()
+        self.opened()?.finalize()
     }
 
-    pub(crate) fn count(self) -> CountAnswer
-        ensures { result ≡ count_answer (reply slots self count).answer }
+    #[tactic(auto, unfolding(crate::specs::Rules::reply))]
+    pub(crate) fn count(self) -> Result<u64, Refusal>
+        ensures { as_count_answer result ≡ count_answer (reply slots self count).answer }
     {
-        if !self.is_open {
-            return CountAnswer {
-                number: CLOSED,
-                count: 0,
-            };
-        }
-        let state = self.state;
-        state.count()
+        self.opened()?.count()
     }
 
-    pub(crate) fn close(self) -> SlotAnswer
-        ensures { result ≡ slot_answer (reply slots self close) }
+    #[tactic(auto, unfolding(crate::specs::Rules::reply))]
+    pub(crate) fn close(self) -> Result<Slot, Refusal>
+        ensures { as_slot_answer self result ≡ slot_answer (reply slots self close) }
     {
-        if !self.is_open {
-            return SlotAnswer {
-                number: CLOSED,
-                slot: self,
-            };
-        }
-        let empty = State::zero();
-        let mut s = self;
-        s.is_open = false;
-        s.state = empty;
-        SlotAnswer {
-            number: ACCEPTED,
-            slot: s,
-        }
+        self.opened()?;
+        Ok(Slot::closed())
     }
 }

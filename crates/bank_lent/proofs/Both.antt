@@ -14,27 +14,31 @@ use prog.Routine.{Routine}
 use types.Logic.{Logic}
 use contract.Monad.{Fun, fact}
 use denote.Ref.{Bor}
+use Rattle.std.specs.Prelude.{Result}
+use Rattle.refusals.specs.declared.refusal.BatchRefusal.{BatchRefusal}
 use Rattle.bank.specs.Rules.{Call, on, update_many, Kind, step, answers, after}
-use Rattle.bank.specs.Slots.{slots, slot_limit, batch_limit, empty_bank, batch_answer}
+use Rattle.bank.specs.Slots.{slots, slot_limit, batch_limit, empty_bank, told, batch_answer}
 use Rattle.bank.specs.Table.{table}
 use Rattle.bank.specs.Made.{All, Made}
 use Rattle.bank.specs.declared.bank.Bank.{Bank}
-use Rattle.bank.specs.declared.bank.BatchAnswer.{BatchAnswer}
 use Rattle.bank.specs.declared.piece.Piece.{Piece}
 use Rattle.bank.proofs.History.{bank_history}
 use Rattle.bank.specs.contracts.bank.Bank.update_many as array_form
-use Rattle.bank_lent.specs.Forms.{Front, Lends, Alike}
+use Rattle.bank_lent.specs.Forms.{Front, lent, Lends, Alike}
 use Rattle.bank_lent.specs.contracts.update_many as lent_form
 use Rattle.bank_lent.proofs.Fronts.{front_serves}
-use Rattle.walks.proofs.Settled.{facts_agree}
+use Rattle.walks.proofs.Settled.{facts_settle}
+use Rattle.bank.proofs.Unique.{records_settled}
 
 -- what the two functions promise, of the same records: an answer that meets the one promise is the answer that meets the other
 pub same_answer : {M : Type 1} {𝓤 : Ura M} (𝓛 : Logic 𝓤) (mem : Memory → SProp 𝓤) (run : Routine → Fun 𝓤) (κs : _) (κs' : _)
-    (b : Bank) (ps : List Piece) (used : ℕ) (x : Bor (List Piece)) (z z' : Bor (List ℕ)) (r q : BatchAnswer) (exit : _) (exit' : _)
+    (b : Bank) (ps : List Piece) (used : ℕ) (x : Bor (List Piece)) (z z' : Bor (List ℕ)) (r q : Result Bank BatchRefusal) (exit : _) (exit' : _)
     → Front ps used x.now → z.now ≡ z'.now
     → ent 𝓤 (sep 𝓤 ((array_form.clauses 𝓛 mem run κs (b, (ps, (used, (z, tt))))).ensures tt r exit) ((lent_form.clauses 𝓛 mem run κs' (b, (x, (z', tt)))).ensures tt q exit')) (fact 𝓤 (r ≡ q))
 same_answer {𝓤 = 𝓤} 𝓛 mem run κs κs' b ps used x z z' r q exit exit' f e =
-    facts_agree 𝓤 (rw e (ap batch_answer (sym (front_serves slots slot_limit batch_limit b.slots z'.now ps x.now used f))))
+    let same : told b (update_many ps used z.now) ≡ told b (lent x.now z'.now) =
+    ap (λ (d : List ℕ). told b (update_many ps used d)) e ∙ sym (front_serves slots slot_limit batch_limit b.slots z'.now ps x.now used f) in
+    facts_settle 𝓤 (λ g h. records_settled b (g ∙ ap batch_answer same ∙ sym h))
 
 module _ {X : Type 0} (kind : Kind X) (n most : ℕ) where
   one_step : (xs : List X) (c e : Call) → (c ≡ e) ⊎ Lends c e → step kind n most xs c ≡ step kind n most xs e

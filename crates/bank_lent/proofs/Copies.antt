@@ -1,16 +1,15 @@
--- Records that are copied to the places of an array one by one, and why the copy serves as well.
+-- Records that are copied to the front of an array, and why the copy serves as well.
 -- Assumes nothing.
-use mathlib.Core.Path.{◌≡◌, refl, sym, ap, ◌∙◌}
-use mathlib.Core.List.{List, [], ◌∷◌, head-eq_of_cons-eq, tail-eq_of_cons-eq}
-use Prim.Native.Nat.{ℕ, zero, suc, ◌+◌, ◌<◌, ◌≤◌}
-use native.Mathlib.Numerals.{add-one}
+use mathlib.Core.Path.{◌≡◌, sym, ap, ◌∙◌}
+use mathlib.Core.List.{List, ◌++◌}
+use Prim.Native.Nat.{ℕ, ◌≤◌, min}
 use native.Mathlib.Omega.{arith}
-use lib.ListN.{length, get_or, set, take, length-set}
+use lib.ListN.{length, take, drop}
+use Rattle.std.proofs.lemmas.List.{take-take, take-append-le, length-take-le, length-append, length-drop}
 use Rattle.bank.specs.Rules.{update_many}
 use Rattle.bank.specs.Slots.{slots, slot_limit, batch_limit, told}
 use Rattle.bank.specs.declared.bank.Bank.{Bank}
 use Rattle.bank.specs.declared.piece.Piece.{Piece}
-use Rattle.bank_lent.specs.Copy.{blank}
 use Rattle.bank_lent.proofs.Fronts.{same_records}
 
 -- the first i records of qs are in their places of ps
@@ -19,21 +18,16 @@ pub record Copies (i : ℕ) (ps qs : List Piece) : Type 0 where
   pub whole : length ps ≡ batch_limit
   pub there : i ≤ length qs
 
-pub copies_none : (qs : List Piece) → Copies 0 blank.list qs
-copies_none qs = record { same = refl; whole = refl; there = omega arith }
-
-one_more : {A : Type 0} (i : ℕ) (ps qs : List A) (d : A) → i < length ps → i < length qs → take i ps ≡ take i qs → take (suc i) (set ps i (get_or qs i d)) ≡ take (suc i) qs
-one_more i [] qs d l m e = absurd (omega arith)
-one_more i (p ∷ ps) [] d l m e = absurd (omega arith)
-one_more zero (p ∷ ps) (q ∷ qs) d l m e = refl
-one_more (suc i) (p ∷ ps) (q ∷ qs) d l m e = λ k. head-eq_of_cons-eq e k ∷ one_more i ps qs d (omega (arith, l)) (omega (arith, m)) (tail-eq_of_cons-eq e) k
-
-pub copies_next : (i : ℕ) (ps qs : List Piece) (d : Piece) → i < length qs → i < batch_limit → Copies i ps qs → Copies (i + 1) (set ps i (get_or qs i d)) qs
-copies_next i ps qs d m l c =
+-- as many as there are, and as an array has room for, over whatever stood there
+pub copies_front : (n : ℕ) (old qs : List Piece) {front : List Piece} → length old ≡ batch_limit → n ≡ min (length qs) batch_limit → front ≡ take n qs
+    → Copies n (front ++ drop n old) qs
+copies_front n old qs {front} l e f =
+    let there : n ≤ length qs = omega (arith, e) in
+    let copied : length front ≡ n = ap length f ∙ length-take-le n qs there in
     record {
-      same = rw (add-one i) (one_more i ps qs d (rw c.whole l) m c.same);
-      whole = length-set ps i (get_or qs i d) ∙ c.whole;
-      there = omega (arith, m);
+      same = take-append-le n front (drop n old) (omega (arith, copied)) ∙ ap (take n) f ∙ take-take n n qs (omega arith);
+      whole = omega (arith, length-append front (drop n old), length-drop n old, l, e, copied);
+      there = there;
     }
 
 -- where all are copied, unless they are more than a batch may have

@@ -2,12 +2,13 @@
 -- Assumes nothing.
 use mathlib.Core.Path.{◌≡◌, refl, sym, ap, ◌∙◌}
 use mathlib.Core.Bool.{Bool, true, false}
-use mathlib.Core.List.{List, [], ◌∷◌}
-use Prim.Native.Nat.{ℕ, zero, suc, ◌≤◌}
+use mathlib.Core.List.{List}
+use Prim.Native.Nat.{ℕ, ◌≤◌}
 use native.Mathlib.Omega.{arith}
 use borrow.Author.Tests.{leb-true}
 use lib.Dec.{leb}
-use lib.ListN.{length, take}
+use lib.ListN.{take}
+use Rattle.std.proofs.lemmas.List.{take-take}
 use Rattle.bank.specs.Rules.{Kind, update_many, step}
 use Rattle.bank.specs.declared.piece.Piece.{Piece}
 use Rattle.bank_lent.specs.Forms.{Front, lent}
@@ -21,18 +22,8 @@ module _ {X : Type 0} (kind : Kind X) (n most : ℕ) (xs : List X) (d : List ℕ
       split true e = rw (e, same (leb-true used most e))
       split false e = rw e
 
-pub front_length : {A : Type 0} (k : ℕ) (xs : List A) → k ≤ length xs → length (take k xs) ≡ k
-front_length zero xs l = refl
-front_length (suc k) [] l = absurd (omega arith)
-front_length (suc k) (x ∷ xs) l = ap suc (front_length k xs (omega (arith, l)))
-
-front_twice : {A : Type 0} (k : ℕ) (xs : List A) → take k (take k xs) ≡ take k xs
-front_twice zero xs = refl
-front_twice (suc k) [] = refl
-front_twice (suc k) (x ∷ xs) = ap (λ (ys : List _). x ∷ ys) (front_twice k xs)
-
 -- the first records as a list of their own
 pub front_serves : {X : Type 0} (kind : Kind X) (n most : ℕ) (xs : List X) (d : List ℕ) (ps qs : List Piece) (used : ℕ) → Front ps used qs
     → step kind n most xs (lent qs d) ≡ step kind n most xs (update_many ps used d)
 front_serves kind n most xs d ps qs used f =
-    ap (λ (m : ℕ). step kind n most xs (update_many qs m d)) f.1 ∙ same_records kind n most xs d qs ps used (λ _. ap (take used) (sym f.0) ∙ front_twice used ps)
+    ap (λ (m : ℕ). step kind n most xs (update_many qs m d)) f.1 ∙ same_records kind n most xs d qs ps used (λ _. ap (take used) (sym f.0) ∙ take-take used used ps (omega arith))

@@ -22,7 +22,7 @@ use Rattle.blake2b.specs.Params.{hash_length_at, fanout_at, max_depth_at, max_le
 use Rattle.blake2b.specs.Params.{Setting, hash_length, key, salt, personal, fanout, max_depth, max_leaf_length, node_offset, node_depth, inner_hash_length, last_node}
 use Rattle.blake2b.specs.Params.{after_setting}
 use Rattle.blake2b.specs.declared.params.Params.{Params}
-use Rattle.blake2b.specs.declared.params.ParamsAnswer.{ParamsAnswer}
+use Rattle.blake2b.specs.Answers.{ParamsAnswer}
 
 -- what parameters out of this crate keep
 pub record Good (p : Params) : Type 0 where

@@ -14,7 +14,7 @@ use Rattle.laws_words.specs.Bytes.{zeros}
 use Rattle.laws_blocks.proofs.Sizes.{length_whole}
 use Rattle.refusals.specs.Numbers.{limit}
 use Rattle.hash.specs.Hash.{hash_of}
-use Rattle.hash.specs.declared.HashAnswer.{HashAnswer}
+use Rattle.hash.specs.Answers.{HashAnswer}
 use Rattle.blake2b.specs.Params.{defaults, asked, front}
 use Rattle.blake2b_state.specs.Sizes.{outbytes}
 use Rattle.blake2b_state.specs.State.{key_front, plain, updated, finalized}

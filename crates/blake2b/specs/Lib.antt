@@ -1,3 +1,4 @@
+pub mod Answers
 pub mod Params
 pub mod Member
 pub mod Row

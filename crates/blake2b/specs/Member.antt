@@ -5,10 +5,10 @@ use Rattle.definitions.specs.Family.{BLAKE2b}
 use Rattle.definitions.specs.Hash.{start, untruncated}
 use Rattle.members.specs.Member.{Member}
 use Rattle.members.specs.Member as calls
-use Rattle.hash.specs.declared.HashAnswer.{HashAnswer}
+use Rattle.hash.specs.Answers.{HashAnswer}
 use Rattle.blake2b_state.specs.State.{begun, zero_state, keeper, reads}
 use Rattle.blake2b_state.specs.declared.state.State.{State}
-use Rattle.blake2b_state.specs.declared.state.StateAnswer.{StateAnswer}
+use Rattle.blake2b_state.specs.Answers.{StateAnswer}
 use Rattle.blake2b.specs.Params.{in_range, asked, front}
 use Rattle.blake2b.specs.declared.params.Params.{Params}
 

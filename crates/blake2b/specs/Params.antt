@@ -10,7 +10,7 @@ use Rattle.hash.specs.Hash.{is_digest_length}
 use Rattle.blake2b_state.specs.Sizes.{blockbytes, outbytes, keybytes, fieldbytes}
 use Rattle.blake2b_state.specs.State.{key_front}
 use Rattle.blake2b.specs.declared.params.Params.{Params}
-use Rattle.blake2b.specs.declared.params.ParamsAnswer.{ParamsAnswer}
+use Rattle.blake2b.specs.Answers.{ParamsAnswer}
 
 abbrev pub defaults : Params
 defaults = record {

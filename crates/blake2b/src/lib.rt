@@ -5,7 +5,8 @@
 mod one_shot;
 mod params;
 
-pub use blake2b_state::{CountAnswer, State, StateAnswer};
-pub use hash::{EqualAnswer, Hash, HashAnswer, LengthAnswer};
+pub use blake2b_state::State;
+pub use hash::Hash;
 pub use one_shot::blake2b;
-pub use params::{Params, ParamsAnswer};
+pub use params::Params;
+pub use refusals::Refusal;

@@ -1,24 +1,25 @@
 // The parameters: the defaults, a setter for each, the words that a hash starts from, and the state that starts from them.
 // A setter overwrites its whole field, so that nothing of an older value stays.
-ghost use Rattle.std.specs.Prelude.{◌≡◌, true, ◌≤◌, leb, eqb, length, [], ◌∷◌};
+ghost use Rattle.std.specs.Prelude.{◌≡◌, ◌<◌, ◌≤◌, true, false, leb, length, [], ◌∷◌, MatchResult};
 ghost use Rattle.definitions.specs.Words.{pad};
 ghost use Rattle.definitions.specs.Family.{BLAKE2b};
 ghost use Rattle.definitions.specs.Hash.{start};
-ghost use Rattle.laws_words.specs.Bytes.{zeros};
-ghost use Rattle.refusals.specs.Numbers.{accepted, digest_length, key_length, salt_length, personal_length, inner_length};
+ghost use Rattle.refusals.specs.declared.refusal.Refusal.TheVariants.{Record};
+ghost use Rattle.refusals.specs.Numbers.{digest_length, key_length, salt_length, personal_length, inner_length};
 ghost use Rattle.refusals.specs.Tests.{test};
 ghost use Rattle.hash.specs.Hash.{is_digest_length};
+ghost use Rattle.blake2b_state.specs.Answers.{as_state_answer};
+ghost use Rattle.blake2b_state.specs.State.{zero_state};
+ghost use Rattle.blake2b.specs.Answers.{as_params_answer};
 ghost use Rattle.blake2b.specs.Params.{defaults, in_range, asked, answered, with_number, with_key, with_salt, with_personal, with_last_node};
-ghost use Rattle.blake2b.specs.Member.{fresh, opened};
+ghost use Rattle.blake2b.specs.Member.{opened};
 ghost use Rattle.blake2b.specs.Params.{hash_length_at, fanout_at, max_depth_at, max_leaf_length_at, node_offset_at, node_depth_at, inner_hash_length_at};
 
-use blake2b_state::{State, StateAnswer};
-use guts::store;
+use blake2b_state::State;
+use guts::{padded, zeroed};
 use hash::{OUTBYTES, is_digest_length};
-use portable::{padded_block, parameter_words, zero_block};
-use refusals::{
-    ACCEPTED, DIGEST_LENGTH, INNER_LENGTH, KEY_LENGTH, PERSONAL_LENGTH, RECORD, SALT_LENGTH,
-};
+use portable::ParameterBlock;
+use refusals::Refusal;
 
 #[derive(Clone, Copy)]
 pub struct Params {
@@ -36,27 +37,15 @@ pub struct Params {
     pub(crate) last_node: bool,
 }
 
-// What a setter answers: the changed parameters, or the old ones with a refusal.
-#[derive(Clone, Copy)]
-pub struct ParamsAnswer {
-    pub number: u8,
-    pub params: Params,
-}
-
-fn zero_field() -> [u8; 16]
-    ensures { result ≡ zeros 16 }
+// A field of what is given and zeros behind it: refused where that is longer than it may be.
+fn field<const N: usize>(given: &[u8], most: usize, refusal: Refusal) -> Result<[u8; N], Refusal>
+    requires { most ≤ N }
+    ensures { MatchResult result (λ f. (length given.now ≤ most) × (f ≡ pad N given.now)) (λ e. (e ≡ refusal) × (most < length given.now)) }
 {
-    [0; 16]
-}
-
-// The bytes, of which there are at most sixteen, and zeros up to sixteen.
-fn padded16(bytes: &[u8]) -> [u8; 16]
-    requires { length bytes.now ≤ 16 }
-    ensures { result ≡ pad 16 bytes.now }
-{
-    let mut field = zero_field();
-    store(&mut field, 0, bytes);
-    field
+    if given.len() > most {
+        return Err(refusal);
+    }
+    Ok(padded(given))
 }
 
 impl Params {
@@ -70,14 +59,14 @@ impl Params {
 
     pub const BLOCKBYTES: usize = portable::BLOCKBYTES;
 
+    #[tactic(auto, unfolding(laws_words::specs::Bytes::zeros))]
     pub fn new() -> Self
         ensures { result ≡ defaults }
     {
-        let key_block = zero_block();
         Params {
             hash_length: 64,
             key_length: 0,
-            key_block,
+            key_block: zeroed(),
             salt: [0; 16],
             personal: [0; 16],
             fanout: 1,
@@ -91,146 +80,136 @@ impl Params {
     }
 
     // Whether the record keeps its stated ranges.
+    #[tactic(auto, unfolding(crate::specs::Params::in_range))]
     pub fn in_range(self) -> bool
         ensures { result ≡ in_range self }
     {
-        if !is_digest_length(self.hash_length as usize) {
-            return false;
-        }
-        if self.key_length as usize > Params::KEYBYTES {
-            return false;
-        }
-        self.inner_hash_length as usize <= Params::OUTBYTES
+        is_digest_length(self.hash_length as usize)
+            && self.key_length as usize <= Params::KEYBYTES
+            && self.inner_hash_length as usize <= Params::OUTBYTES
     }
 
-    // What a setter answers: the changed parameters or, where these are bad or what was given is, these with the refusal.
-    fn answer(self, refusal: u8, changed: Params) -> ParamsAnswer
-        ensures { result ≡ answered self (test (eqb refusal accepted) refusal ∷ []) changed }
+    // Refuses a record that breaks them.
+    pub(crate) fn check(&self) -> Result<(), Refusal>
+        ensures { MatchResult result (λ _. in_range self.now ≡ true) (λ e. (e ≡ Record) × (in_range self.now ≡ false)) }
     {
         if !self.in_range() {
-            return ParamsAnswer {
-                number: RECORD,
-                params: self,
-            };
+            return Err(Refusal::Record);
         }
-        if refusal != ACCEPTED {
-            return ParamsAnswer {
-                number: refusal,
-                params: self,
-            };
-        }
-        ParamsAnswer {
-            number: ACCEPTED,
-            params: changed,
-        }
+        Ok(())
     }
 
-    pub fn hash_length(self, length: usize) -> ParamsAnswer
-        ensures { result ≡ answered self (test (is_digest_length length) digest_length ∷ []) (with_number hash_length_at length self) }
+    pub fn hash_length(self, length: usize) -> Result<Self, Refusal>
+        ensures { as_params_answer self result ≡ answered self (test (is_digest_length length) digest_length ∷ []) (with_number hash_length_at length self) }
     {
+        self.check()?;
         if !is_digest_length(length) {
-            return self.answer(DIGEST_LENGTH, self);
+            return Err(Refusal::DigestLength);
         }
-        let mut p = self;
-        p.hash_length = length as u8;
-        self.answer(ACCEPTED, p)
+        Ok(Params {
+            hash_length: length as u8,
+            ..self
+        })
     }
 
     // A key, which an empty one takes away.
-    pub fn key(self, key: &[u8]) -> ParamsAnswer
-        ensures { result ≡ answered self (test (leb (length key.now) 64) key_length ∷ []) (with_key key.now self) }
+    pub fn key(self, key: &[u8]) -> Result<Self, Refusal>
+        ensures { as_params_answer self result ≡ answered self (test (leb (length key.now) 64) key_length ∷ []) (with_key key.now self) }
     {
-        if key.len() > Params::KEYBYTES {
-            return self.answer(KEY_LENGTH, self);
-        }
-        let block = padded_block(key);
-        let mut p = self;
-        p.key_length = key.len() as u8;
-        p.key_block = block;
-        self.answer(ACCEPTED, p)
+        self.check()?;
+        let key_block = field(key, Params::KEYBYTES, Refusal::KeyLength)?;
+        Ok(Params {
+            key_length: key.len() as u8,
+            key_block,
+            ..self
+        })
     }
 
-    pub fn salt(self, salt: &[u8]) -> ParamsAnswer
-        ensures { result ≡ answered self (test (leb (length salt.now) 16) salt_length ∷ []) (with_salt salt.now self) }
+    pub fn salt(self, salt: &[u8]) -> Result<Self, Refusal>
+        ensures { as_params_answer self result ≡ answered self (test (leb (length salt.now) 16) salt_length ∷ []) (with_salt salt.now self) }
     {
-        if salt.len() > Params::SALTBYTES {
-            return self.answer(SALT_LENGTH, self);
-        }
-        let field = padded16(salt);
-        let mut p = self;
-        p.salt = field;
-        self.answer(ACCEPTED, p)
+        self.check()?;
+        let salt = field(salt, Params::SALTBYTES, Refusal::SaltLength)?;
+        Ok(Params { salt, ..self })
     }
 
-    pub fn personal(self, personalization: &[u8]) -> ParamsAnswer
-        ensures { result ≡ answered self (test (leb (length personalization.now) 16) personal_length ∷ []) (with_personal personalization.now self) }
+    pub fn personal(self, personalization: &[u8]) -> Result<Self, Refusal>
+        ensures { as_params_answer self result ≡ answered self (test (leb (length personalization.now) 16) personal_length ∷ []) (with_personal personalization.now self) }
     {
-        if personalization.len() > Params::PERSONALBYTES {
-            return self.answer(PERSONAL_LENGTH, self);
-        }
-        let field = padded16(personalization);
-        let mut p = self;
-        p.personal = field;
-        self.answer(ACCEPTED, p)
+        self.check()?;
+        let personal = field(
+            personalization,
+            Params::PERSONALBYTES,
+            Refusal::PersonalLength,
+        )?;
+        Ok(Params { personal, ..self })
     }
 
-    pub fn fanout(self, fanout: u8) -> ParamsAnswer
-        ensures { result ≡ answered self [] (with_number fanout_at fanout self) }
+    pub fn fanout(self, fanout: u8) -> Result<Self, Refusal>
+        ensures { as_params_answer self result ≡ answered self [] (with_number fanout_at fanout self) }
     {
-        let mut p = self;
-        p.fanout = fanout;
-        self.answer(ACCEPTED, p)
+        self.check()?;
+        Ok(Params { fanout, ..self })
     }
 
-    pub fn max_depth(self, depth: u8) -> ParamsAnswer
-        ensures { result ≡ answered self [] (with_number max_depth_at depth self) }
+    pub fn max_depth(self, depth: u8) -> Result<Self, Refusal>
+        ensures { as_params_answer self result ≡ answered self [] (with_number max_depth_at depth self) }
     {
-        let mut p = self;
-        p.max_depth = depth;
-        self.answer(ACCEPTED, p)
+        self.check()?;
+        Ok(Params {
+            max_depth: depth,
+            ..self
+        })
     }
 
-    pub fn max_leaf_length(self, length: u32) -> ParamsAnswer
-        ensures { result ≡ answered self [] (with_number max_leaf_length_at length self) }
+    pub fn max_leaf_length(self, length: u32) -> Result<Self, Refusal>
+        ensures { as_params_answer self result ≡ answered self [] (with_number max_leaf_length_at length self) }
     {
-        let mut p = self;
-        p.max_leaf_length = length;
-        self.answer(ACCEPTED, p)
+        self.check()?;
+        Ok(Params {
+            max_leaf_length: length,
+            ..self
+        })
     }
 
-    pub fn node_offset(self, offset: u64) -> ParamsAnswer
-        ensures { result ≡ answered self [] (with_number node_offset_at offset self) }
+    pub fn node_offset(self, offset: u64) -> Result<Self, Refusal>
+        ensures { as_params_answer self result ≡ answered self [] (with_number node_offset_at offset self) }
     {
-        let mut p = self;
-        p.node_offset = offset;
-        self.answer(ACCEPTED, p)
+        self.check()?;
+        Ok(Params {
+            node_offset: offset,
+            ..self
+        })
     }
 
-    pub fn node_depth(self, depth: u8) -> ParamsAnswer
-        ensures { result ≡ answered self [] (with_number node_depth_at depth self) }
+    pub fn node_depth(self, depth: u8) -> Result<Self, Refusal>
+        ensures { as_params_answer self result ≡ answered self [] (with_number node_depth_at depth self) }
     {
-        let mut p = self;
-        p.node_depth = depth;
-        self.answer(ACCEPTED, p)
+        self.check()?;
+        Ok(Params {
+            node_depth: depth,
+            ..self
+        })
     }
 
-    pub fn inner_hash_length(self, length: usize) -> ParamsAnswer
-        ensures { result ≡ answered self (test (leb length 64) inner_length ∷ []) (with_number inner_hash_length_at length self) }
+    pub fn inner_hash_length(self, length: usize) -> Result<Self, Refusal>
+        ensures { as_params_answer self result ≡ answered self (test (leb length 64) inner_length ∷ []) (with_number inner_hash_length_at length self) }
     {
+        self.check()?;
         if length > Params::OUTBYTES {
-            return self.answer(INNER_LENGTH, self);
+            return Err(Refusal::InnerLength);
         }
-        let mut p = self;
-        p.inner_hash_length = length as u8;
-        self.answer(ACCEPTED, p)
+        Ok(Params {
+            inner_hash_length: length as u8,
+            ..self
+        })
     }
 
-    pub fn last_node(self, last_node: bool) -> ParamsAnswer
-        ensures { result ≡ answered self [] (with_last_node last_node self) }
+    pub fn last_node(self, last_node: bool) -> Result<Self, Refusal>
+        ensures { as_params_answer self result ≡ answered self [] (with_last_node last_node self) }
     {
-        let mut p = self;
-        p.last_node = last_node;
-        self.answer(ACCEPTED, p)
+        self.check()?;
+        Ok(Params { last_node, ..self })
     }
 
     // What the layers above read of the parameters.
@@ -264,51 +243,32 @@ impl Params {
     {
         let salt = self.salt;
         let personal = self.personal;
-        parameter_words(
-            self.hash_length,
-            self.key_length,
-            self.fanout,
-            self.max_depth,
-            self.max_leaf_length,
-            self.node_offset,
-            self.node_depth,
-            self.inner_hash_length,
+        ParameterBlock {
+            digest_length: self.hash_length,
+            key_length: self.key_length,
+            fanout: self.fanout,
+            depth: self.max_depth,
+            leaf_length: self.max_leaf_length,
+            node_offset: self.node_offset,
+            node_depth: self.node_depth,
+            inner_length: self.inner_hash_length,
             salt,
             personal,
-        )
+        }
+        .words()
     }
 
     // The state of no message bytes.
-    pub(crate) fn with_params(self) -> State
-        requires { in_range self ≡ true }
-        ensures { result ≡ fresh self }
+    #[tactic(auto, using(blake2b_state::proofs::Exits::handed_on), unfolding(crate::specs::Member::opened))]
+    pub fn to_state(self) -> Result<State, Refusal>
+        ensures { as_state_answer zero_state result ≡ opened self }
     {
-        let words = self.to_words();
-        let key_block = self.key_block;
-        let answer = State::begin(
-            words,
+        self.check()?;
+        State::begin(
+            self.to_words(),
             self.hash_length,
             self.last_node,
-            self.is_keyed(),
-            key_block,
-        );
-        answer.state
-    }
-
-    pub fn to_state(self) -> StateAnswer
-        ensures { result ≡ opened self }
-    {
-        if !self.in_range() {
-            let state = State::zero();
-            return StateAnswer {
-                number: RECORD,
-                state,
-            };
-        }
-        let state = self.with_params();
-        StateAnswer {
-            number: ACCEPTED,
-            state,
-        }
+            self.is_keyed().then_some(self.key_block),
+        )
     }
 }

@@ -1,7 +1,7 @@
 -- The laws of states: those of the laws' machine of one hash, at this record.
 -- Assumes nothing.
 use mathlib.Core.Path.{◌≡◌, refl, ap}
-use mathlib.Core.Bool.{Bool, true, false}
+use mathlib.Core.Bool.{Bool, true}
 use mathlib.Core.List.{List}
 use Prim.Native.Nat.{ℕ, ◌+◌, ◌≤◌}
 use native.Mathlib.Omega.{arith}
@@ -16,11 +16,11 @@ use Rattle.members.proofs.Laws.{KeeperLaws}
 use Rattle.members.proofs.Laws as members
 use Rattle.members.proofs.Promises.{Faithful}
 use Rattle.members.proofs.Closings.{one_late}
-use Rattle.guts.specs.Guts.{is_last_node}
+use Rattle.members.proofs.Ranges.{Kept, in_range_lem}
 use Rattle.hash.specs.Hash.{is_digest_length}
 use Rattle.hash.proofs.Digests.{digest_of_hash}
 use Rattle.blake2b_state.specs.Sizes.{blockbytes}
-use Rattle.blake2b_state.specs.State.{machine, last_node_of, begun, beginning, reads, keeper}
+use Rattle.blake2b_state.specs.State.{bounds, machine, begun, beginning, reads, keeper, state_in_range}
 use Rattle.blake2b_state.specs.declared.state.State.{State}
 
 abbrev pub lawful : Lawful machine
@@ -55,12 +55,12 @@ faithful = record {
 abbrev pub store : Store State (List ℕ)
 store = members.store keeper laws
 
--- the flag of the last node, through the code's enum and back
-pub last_node_is : (up : Bool) → is_last_node (last_node_of up) ≡ up
-last_node_is true = refl
-last_node_is false = refl
+-- what a state in range keeps
+pub kept : (s : State) → state_in_range s ≡ true → Kept keeper s
+kept s = in_range_lem bounds s.hash_length s.buflen s.count s.is_keyed
 
 -- a state begins where a digest may have the length
-pub begins : (words : List ℕ) (n : ℕ) (up keyed : Bool) (block : List ℕ) → is_digest_length n ≡ true → (beginning words n up keyed block).state ≡ begun words n up keyed block
+pub begins : (words : List ℕ) (n : ℕ) (up keyed : Bool) (block : List ℕ) → is_digest_length n ≡ true
+    → beginning words n up keyed block ≡ record { number = accepted; state = begun words n up keyed block }
 unfolding beginning
 begins words n up keyed block e = rw e

@@ -1,6 +1,6 @@
 -- States: what waits and what has gone, how one begins, the state that bytes lead to, and what each call answers.
 -- Assumes nothing.
-use Rattle.std.specs.Prelude.{Bool, true, false, cond, List, [], ◌∷◌, ℕ, length, take}
+use Rattle.std.specs.Prelude.{Bool, true, false, cond, List, [], ◌∷◌, ◌≡◌, ℕ, ◌+◌, ◌^◌, ◌<◌, ◌≤◌, length, take}
 use Rattle.definitions.specs.Words.{pad}
 use Rattle.definitions.specs.Family.{BLAKE2b}
 use Rattle.definitions.specs.Hash.{sequential, start, state_bytes}
@@ -13,18 +13,11 @@ use Rattle.members.specs.Row.{digested}
 use Rattle.members.specs.Row as row
 use Rattle.members.specs.Keeper.{Bounds, Keeper, Reads}
 use Rattle.members.specs.Keeper as calls
-use Rattle.guts.specs.declared.LastNode.{LastNode}
-use Rattle.guts.specs.declared.LastNode.TheVariants as flag
 use Rattle.hash.specs.Hash.{is_digest_length, hash_of, digest_of, no_hash}
-use Rattle.hash.specs.declared.HashAnswer.{HashAnswer}
+use Rattle.hash.specs.Answers.{HashAnswer}
 use Rattle.blake2b_state.specs.Sizes.{blockbytes, outbytes}
 use Rattle.blake2b_state.specs.declared.state.State.{State}
-use Rattle.blake2b_state.specs.declared.state.StateAnswer.{StateAnswer}
-use Rattle.blake2b_state.specs.declared.state.CountAnswer.{CountAnswer}
-
-abbrev pub last_node_of : Bool → LastNode
-last_node_of true = flag.Yes
-last_node_of false = flag.No
+use Rattle.blake2b_state.specs.Answers.{StateAnswer, CountAnswer}
 
 -- what a state buffers, and the state with something else in its place
 abbrev pub core : State → Held (List ℕ)
@@ -100,16 +93,21 @@ pushed = calls.pushed keeper
 abbrev pub total : State → ℕ
 total = calls.total keeper
 
-abbrev pub range_of : ℕ → ℕ → ℕ → Bool → Bool
-range_of = calls.range_of bounds
-
 abbrev pub state_in_range : State → Bool
 state_in_range = calls.in_range keeper
+
+-- what a state in range keeps, as bounds
+pub record WithinBounds (s : State) : Type 0 where
+  pub least : 1 ≤ s.hash_length
+  pub most : s.hash_length ≤ outbytes
+  pub held : s.buflen ≤ blockbytes
+  pub within : s.count + s.buflen < 2 ^ 64
+  pub front : s.is_keyed ≡ true → blockbytes ≤ s.count + s.buflen
 
 abbrev pub closed_digest : State → List ℕ
 closed_digest = calls.closed_digest keeper
 
--- this crate's records of the answers
+-- the paper's records of the answers
 abbrev pub reads : Reads State StateAnswer HashAnswer CountAnswer
 reads = record {
   state = λ n s. record { number = n; state = s };

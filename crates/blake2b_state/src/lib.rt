@@ -4,4 +4,4 @@
 // Its calls are total, and public through the crate blake2b; parameters are not its concern.
 mod state;
 
-pub use state::{CountAnswer, State, StateAnswer, last_node_of};
+pub use state::State;

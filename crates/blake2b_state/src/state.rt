@@ -1,16 +1,18 @@
 // The state of a hash that takes its message piece by piece.
 // A last block, also a full one, waits in the buffer until more has come.
-ghost use Rattle.std.specs.Prelude.{◌≡◌, ◌++◌, ◌+◌, ◌*◌, ◌^◌, ◌<◌, ◌≤◌, length};
+ghost use Rattle.std.specs.Prelude.{◌≡◌, ◌++◌, ◌+◌, ◌*◌, ◌^◌, ◌<◌, ◌≤◌, [], true, false, length, is_some, unwrap_or, MatchResult};
 ghost use Rattle.definitions.specs.Family.{BLAKE2b};
 ghost use Rattle.laws_blocks.specs.Chain.{spare, absorb};
 ghost use Rattle.laws_blocks.specs.Blocks.{on_bytes};
-ghost use Rattle.blake2b_state.specs.State.{last_node_of, range_of, state_in_range, zero_state, begun, beginning, plain, pending, moved, updated, last_node_set, finalized, counted};
+ghost use Rattle.hash.specs.Answers.{as_hash_answer};
+ghost use Rattle.blake2b_state.specs.Answers.{as_state_answer, as_count_answer};
+ghost use Rattle.blake2b_state.specs.State.{state_in_range, WithinBounds, zero_state, beginning, plain, pending, moved, updated, last_node_set, finalized, counted};
 
-use guts::{Finalize, LastNode, Stride, offset_slice, store};
-use hash::{Hash, HashAnswer, OUTBYTES, is_digest_length};
-use members::in_bounds;
-use portable::{BLOCKBYTES, Compressed, compress1_loop, parameter_words, zero_block};
-use refusals::{ACCEPTED, DIGEST_LENGTH, LIMIT, RECORD, TOTAL};
+use guts::{Finalize, LastNode, Stride, offset_slice, store, zeroed};
+use hash::{Hash, OUTBYTES, is_digest_length};
+use members::Bounds;
+use portable::{BLOCKBYTES, Compressed, ParameterBlock, compress1_loop};
+use refusals::{LIMIT, Refusal};
 use words::write_words;
 
 #[derive(Clone, Copy)]
@@ -26,42 +28,15 @@ pub struct State {
     pub(crate) is_keyed: bool,
 }
 
-#[derive(Clone, Copy)]
-pub struct StateAnswer {
-    pub number: u8,
-    pub state: State,
-}
-
-#[derive(Clone, Copy)]
-pub struct CountAnswer {
-    pub number: u8,
-    pub count: u64,
-}
-
 // What a key adds to the bytes of a total.
 const KEY_BLOCK: u64 = 128;
 
-pub fn last_node_of(yes: bool) -> LastNode
-    ensures { result ≡ last_node_of yes }
-{
-    if yes { LastNode::Yes } else { LastNode::No }
-}
-
-// Whether a record with these fields keeps its stated ranges.
-fn range_of(hash_length: u8, buflen: usize, count: u64, is_keyed: bool) -> bool
-    ensures { result ≡ range_of hash_length buflen count is_keyed }
-{
-    in_bounds(
-        OUTBYTES,
-        BLOCKBYTES,
-        1,
-        KEY_BLOCK,
-        hash_length,
-        buflen,
-        count,
-        is_keyed,
-    )
-}
+const BOUNDS: Bounds = Bounds {
+    most: OUTBYTES,
+    room: BLOCKBYTES,
+    unit: 1,
+    key: KEY_BLOCK,
+};
 
 // Whole blocks, none of them the last.
 fn absorbed(words: [u64; 8], count: u64, input: &[u8], blocks: usize) -> Compressed
@@ -79,13 +54,11 @@ fn absorbed(words: [u64; 8], count: u64, input: &[u8], blocks: usize) -> Compres
 }
 
 // Of n bytes, the blocks that may go so that a byte is left.
+#[tactic(auto, unfolding(laws_blocks::specs::Chain::spare))]
 fn spare_blocks(n: usize) -> usize
     ensures { result ≡ spare 128 0 n }
 {
-    if n < 1 {
-        return 0;
-    }
-    (n - 1) / BLOCKBYTES
+    n.saturating_sub(1) / BLOCKBYTES
 }
 
 impl State {
@@ -94,54 +67,27 @@ impl State {
         words: [u64; 8],
         hash_length: u8,
         last_node: bool,
-        is_keyed: bool,
-        key_block: [u8; 128],
-    ) -> StateAnswer
-        ensures { result ≡ beginning words hash_length last_node is_keyed key_block }
+        key_block: Option<[u8; 128]>,
+    ) -> Result<Self, Refusal>
+        ensures { as_state_answer zero_state result ≡ beginning words hash_length last_node (is_some key_block) (unwrap_or key_block []) }
     {
         if !is_digest_length(hash_length as usize) {
-            let state = State::zero();
-            return StateAnswer {
-                number: DIGEST_LENGTH,
-                state,
-            };
+            return Err(Refusal::DigestLength);
         }
-        let state = State::begun(words, hash_length, last_node, is_keyed, key_block);
-        StateAnswer {
-            number: ACCEPTED,
-            state,
-        }
-    }
-
-    fn begun(
-        words: [u64; 8],
-        hash_length: u8,
-        last_node: bool,
-        is_keyed: bool,
-        key_block: [u8; 128],
-    ) -> Self
-        ensures { result ≡ begun words hash_length last_node is_keyed key_block }
-    {
-        if is_keyed {
-            return State {
-                words,
-                count: 0,
-                buf: key_block,
-                buflen: BLOCKBYTES,
-                last_node,
-                hash_length,
-                is_keyed,
-            };
-        }
-        let buf = zero_block();
-        State {
+        let unkeyed = State {
             words,
-            count: 0,
-            buf,
-            buflen: 0,
             last_node,
             hash_length,
-            is_keyed,
+            ..State::zero()
+        };
+        match key_block {
+            Some(block) => Ok(State {
+                buf: block,
+                buflen: BLOCKBYTES,
+                is_keyed: true,
+                ..unkeyed
+            }),
+            None => Ok(unkeyed),
         }
     }
 
@@ -149,20 +95,34 @@ impl State {
     pub fn new() -> Self
         ensures { result ≡ plain }
     {
-        let words = parameter_words(64, 0, 1, 1, 0, 0, 0, 0, [0; 16], [0; 16]);
-        let block = zero_block();
-        State::begun(words, 64, false, false, block)
+        let sequential = ParameterBlock {
+            digest_length: OUTBYTES as u8,
+            key_length: 0,
+            fanout: 1,
+            depth: 1,
+            leaf_length: 0,
+            node_offset: 0,
+            node_depth: 0,
+            inner_length: 0,
+            salt: [0; 16],
+            personal: [0; 16],
+        };
+        State {
+            words: sequential.words(),
+            hash_length: OUTBYTES as u8,
+            ..State::zero()
+        }
     }
 
-    // What a refusal answers in place of a state, and what a closed slot holds.
+    // What stands in place of a state where there is none: in a closed slot, for one.
+    #[tactic(auto, unfolding(laws_words::specs::Bytes::zeros))]
     pub fn zero() -> Self
         ensures { result ≡ zero_state }
     {
-        let buf = zero_block();
         State {
             words: [0; 8],
             count: 0,
-            buf,
+            buf: zeroed(),
             buflen: 0,
             last_node: false,
             hash_length: 0,
@@ -174,7 +134,17 @@ impl State {
     pub fn in_range(self) -> bool
         ensures { result ≡ state_in_range self }
     {
-        range_of(self.hash_length, self.buflen, self.count, self.is_keyed)
+        BOUNDS.admits(self.hash_length, self.buflen, self.count, self.is_keyed)
+    }
+
+    // Refuses a record that breaks them.
+    fn check(&self) -> Result<(), Refusal>
+        ensures { MatchResult result (λ _. (state_in_range self.now ≡ true) × WithinBounds self.now) (λ e. (e ≡ Refusal.Record) × (state_in_range self.now ≡ false)) }
+    {
+        if !self.in_range() {
+            return Err(Refusal::Record);
+        }
+        Ok(())
     }
 
     // The input fits the buffer.
@@ -182,13 +152,14 @@ impl State {
         requires { self.buflen + length input.now ≤ 128 }
         ensures { result ≡ moved self (pending self ++ input.now) 0 }
     {
-        let at = self.buflen;
+        let held = self.buflen;
         let mut buf = self.buf;
-        store(&mut buf, at, input);
-        let mut s = self;
-        s.buf = buf;
-        s.buflen = at + input.len();
-        s
+        store(&mut buf, held, input);
+        State {
+            buf,
+            buflen: held + input.len(),
+            ..self
+        }
     }
 
     // The buffer is full, and more is to come.
@@ -196,17 +167,14 @@ impl State {
         requires { (self.buflen ≡ 128) × (self.count + 128 < 2 ^ 64) }
         ensures { result ≡ moved self (pending self) 1 }
     {
-        let w = self.words;
-        let b = self.buf;
-        let run = absorbed(w, self.count, &b, 1);
-        let words = run.words;
-        let empty = zero_block();
-        let mut s = self;
-        s.words = words;
-        s.count = self.count + 128;
-        s.buf = empty;
-        s.buflen = 0;
-        s
+        let words = absorbed(self.words, self.count, &self.buf, 1).words;
+        State {
+            words,
+            count: self.count + 128,
+            buf: zeroed(),
+            buflen: 0,
+            ..self
+        }
     }
 
     // The buffer is empty, and the input is whole blocks.
@@ -217,15 +185,13 @@ impl State {
         if blocks == 0 {
             return self;
         }
-        let w = self.words;
-        let run = absorbed(w, self.count, input, blocks);
-        let words = run.words;
-        let empty = zero_block();
-        let mut s = self;
-        s.words = words;
-        s.count = self.count + input.len() as u64;
-        s.buf = empty;
-        s
+        let words = absorbed(self.words, self.count, input, blocks).words;
+        State {
+            words,
+            count: self.count + input.len() as u64,
+            buf: zeroed(),
+            ..self
+        }
     }
 
     // The buffer is empty: all blocks but the last go straight from the input.
@@ -250,105 +216,59 @@ impl State {
         s.take_long(offset_slice(input, room))
     }
 
-    pub fn update(self, input: &[u8]) -> StateAnswer
-        ensures { result ≡ updated self input.now }
+    #[tactic(auto, using(crate::proofs::Exits::handed_on), unfolding(crate::specs::State::updated, refusals::specs::Numbers::limit))]
+    pub fn update(self, input: &[u8]) -> Result<Self, Refusal>
+        ensures { as_state_answer self result ≡ updated self input.now }
     {
-        let held = self.buflen;
-        if !range_of(self.hash_length, held, self.count, self.is_keyed) {
-            return StateAnswer {
-                number: RECORD,
-                state: self,
-            };
+        self.check()?;
+        let left = LIMIT - self.count - self.buflen as u64;
+        if input.len() as u64 > left {
+            return Err(Refusal::Total);
         }
-        let n = input.len();
-        let left = LIMIT - self.count - (held as u64);
-        if n as u64 > left {
-            return StateAnswer {
-                number: TOTAL,
-                state: self,
-            };
+        if input.len() <= BLOCKBYTES - self.buflen {
+            return Ok(self.fill_buf(input));
         }
-        if n <= BLOCKBYTES - held {
-            let state = self.fill_buf(input);
-            return StateAnswer {
-                number: ACCEPTED,
-                state,
-            };
+        if self.buflen == 0 {
+            return Ok(self.take_long(input));
         }
-        if held == 0 {
-            let state = self.take_long(input);
-            return StateAnswer {
-                number: ACCEPTED,
-                state,
-            };
-        }
-        let state = self.spill(input);
-        StateAnswer {
-            number: ACCEPTED,
-            state,
-        }
+        Ok(self.spill(input))
     }
 
     // The state may go on: it is a copy that is asked.
-    pub fn finalize(self) -> HashAnswer
-        ensures { result ≡ finalized self }
+    #[tactic(auto, using(crate::proofs::Exits::handed_on), unfolding(crate::specs::State::finalized))]
+    pub fn finalize(self) -> Result<Hash, Refusal>
+        ensures { as_hash_answer result ≡ finalized self }
     {
-        let held = self.buflen;
-        if !range_of(self.hash_length, held, self.count, self.is_keyed) {
-            return HashAnswer::refused(RECORD);
-        }
-        let w = self.words;
-        let b = self.buf;
+        self.check()?;
         let run = compress1_loop(
-            &b[..held],
-            w,
+            &self.buf[..self.buflen],
+            self.words,
             self.count,
-            last_node_of(self.last_node),
+            LastNode::from(self.last_node),
             Finalize::Yes,
             Stride::Serial,
         );
-        let words = run.words;
-        let bytes = write_words(words);
-        Hash::from_state(&bytes, self.hash_length as usize)
+        Hash::from_state(&write_words(run.words), self.hash_length as usize)
     }
 
-    pub fn set_last_node(self, last_node: bool) -> StateAnswer
-        ensures { result ≡ last_node_set self last_node }
+    #[tactic(auto, using(crate::proofs::Exits::handed_on), unfolding(crate::specs::State::last_node_set))]
+    pub fn set_last_node(self, last_node: bool) -> Result<Self, Refusal>
+        ensures { as_state_answer self result ≡ last_node_set self last_node }
     {
-        if !self.in_range() {
-            return StateAnswer {
-                number: RECORD,
-                state: self,
-            };
-        }
-        let mut s = self;
-        s.last_node = last_node;
-        StateAnswer {
-            number: ACCEPTED,
-            state: s,
-        }
+        self.check()?;
+        Ok(State { last_node, ..self })
     }
 
     // The message bytes that came: the key block is not one of them.
-    pub fn count(self) -> CountAnswer
-        ensures { result ≡ counted self }
+    #[tactic(auto, using(crate::proofs::Exits::handed_on), unfolding(crate::specs::State::counted, refusals::specs::Numbers::limit))]
+    pub fn count(self) -> Result<u64, Refusal>
+        ensures { as_count_answer result ≡ counted self }
     {
-        if !self.in_range() {
-            return CountAnswer {
-                number: RECORD,
-                count: 0,
-            };
-        }
+        self.check()?;
         let all = self.count + self.buflen as u64;
         if self.is_keyed {
-            return CountAnswer {
-                number: ACCEPTED,
-                count: all - KEY_BLOCK,
-            };
+            return Ok(all - KEY_BLOCK);
         }
-        CountAnswer {
-            number: ACCEPTED,
-            count: all,
-        }
+        Ok(all)
     }
 }

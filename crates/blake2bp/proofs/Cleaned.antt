@@ -16,7 +16,7 @@ use Rattle.hash.specs.Hash.{is_digest_length}
 use Rattle.blake2bp.specs.Sizes.{keybytes}
 use Rattle.blake2bp.specs.Params.{defaults, in_range, answered, with_hash_length, with_key, Setting, hash_length, key, after_setting}
 use Rattle.blake2bp.specs.declared.params.Params.{Params}
-use Rattle.blake2bp.specs.declared.params.ParamsAnswer.{ParamsAnswer}
+use Rattle.blake2bp.specs.Answers.{ParamsAnswer}
 use Rattle.blake2bp.proofs.Setters.{digest_asked, key_short}
 
 -- what parameters out of this crate keep

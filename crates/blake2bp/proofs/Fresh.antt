@@ -1,19 +1,16 @@
 -- The state of no message bytes, as the code makes it, and what its parameters owe: the row of key blocks, and the paper's tree.
 -- Assumes nothing.
 use mathlib.Core.Path.{◌≡◌, refl, sym, ap, ◌∙◌}
-use mathlib.Core.Bool.{Bool, true, false}
+use mathlib.Core.Bool.{Bool}
 use mathlib.Core.List.{List, [], ◌∷◌, map}
 use Prim.Native.Nat.{ℕ, ◌<◌, ◌≤◌}
 use native.Mathlib.Omega.{arith}
-use borrow.Author.Tests.{le-leb, lt-leb}
 use lib.Dec.{leb}
 use lib.ListN.{length}
 use lib.Seq.{length-take-le}
 use Rattle.definitions.specs.Words.{pad}
 use Rattle.definitions.specs.Family.{BLAKE2b}
-use Rattle.laws_words.specs.Bytes.{zeros}
 use Rattle.laws_states.specs.Leaves.{row_of, leaf_starts, root_start}
-use Rattle.laws_words.proofs.Stores.{pad_none}
 use Rattle.laws_states.proofs.Trees.{row_some, row_none}
 use Rattle.members.specs.Keeper.{key_row}
 use Rattle.members.proofs.Laws.{Begun}
@@ -22,7 +19,7 @@ use Rattle.blake2bp_leaves.specs.Sizes.{degree, blockbytes}
 use Rattle.blake2bp_leaves.specs.Leaves.{leaf_of, words_of, on_leaf}
 use Rattle.blake2bp_leaves.specs.declared.leaves.Leaf.{Leaf}
 use Rattle.blake2bp_leaves.proofs.Turns.{words_on_leaf}
-use Rattle.blake2bp.specs.Sizes.{keybytes, keyrowbytes, roombytes}
+use Rattle.blake2bp.specs.Sizes.{keybytes, roombytes}
 use Rattle.blake2bp.specs.Params.{key_of}
 use Rattle.blake2bp.specs.State.{front, key_bytes, bounds, fresh, member}
 use Rattle.blake2bp.specs.declared.params.Params.{Params}
@@ -57,28 +54,16 @@ module _ (p : Params) (whole : length p.key ≡ keybytes) (short : p.key_length 
     begin b n keyed = record { leaves = ls; root_words = w; buf = b; buf_len = n; count = record { 0 = 0 }; hash_length = p.hash_length; is_keyed = keyed }
 
     -- with the front in its buffer
-    begins : {b : List ℕ} {n : ℕ} {keyed : Bool} → b ≡ pad roombytes (front p) → n ≡ length (front p) → keyed ≡ leb 1 p.key_length → begin b n keyed ≡ fresh p
+    pub begins : {b : List ℕ} {n : ℕ} {keyed : Bool} → b ≡ pad roombytes (front p) → keyed ≡ leb 1 p.key_length → n ≡ key_row bounds keyed → begin b n keyed ≡ fresh p
     begins e f g = λ i. record {
       leaves = leaves i;
       root_words = root i;
       buf = e i;
-      buf_len = f i;
+      buf_len = (g ∙ ap (key_row bounds) f ∙ sym length_front) i;
       count = record { 0 = 0 };
       hash_length = p.hash_length;
-      is_keyed = g i;
+      is_keyed = f i;
     }
-
-    pub fresh_keyed : {b k : List ℕ} → 0 < p.key_length → k ≡ pad blockbytes (key_of p) → b ≡ pad roombytes (row_of degree k)
-        → begin b keyrowbytes true ≡ fresh p
-    fresh_keyed {b} {k} h f g =
-        let some = le-leb 1 p.key_length h in
-        begins (g ∙ ap (λ (x : List ℕ). pad roombytes (row_of degree x)) f ∙ ap (pad roombytes) (sym (front_keyed h)))
-        (sym (length_front ∙ ap (key_row bounds) some)) (sym some)
-
-    pub fresh_plain : {b : List ℕ} → p.key_length ≤ 0 → b ≡ zeros roombytes → begin b 0 false ≡ fresh p
-    fresh_plain h g =
-        let none = front_plain h in
-        begins (g ∙ sym (pad_none roombytes) ∙ ap (pad roombytes) (sym none)) (ap length (sym none)) (sym (lt-leb 1 p.key_length (omega arith)))
 
 -- what good parameters owe a state
 pub begun : (p : Params) → Good p → Begun member p

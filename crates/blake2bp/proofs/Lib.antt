@@ -3,9 +3,11 @@ pub mod Cleaned
 pub mod MessageCounts
 pub mod OneShot
 pub mod Fresh
+pub mod Going
 pub mod Plain
 pub mod Rows
 pub mod RunCases
 pub mod Setters
+pub mod Spilling
 pub mod States
 pub mod Unique

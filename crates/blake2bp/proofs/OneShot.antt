@@ -1,26 +1,29 @@
 -- The hash of a whole message is what a state answers that took it: with a key through the state, without one straight from the leaves.
 -- Assumes nothing.
-use mathlib.Core.Path.{◌≡◌, ap, ◌∙◌}
+use mathlib.Core.Path.{◌≡◌, refl, ap, ◌∙◌}
+use mathlib.Core.Bool.{Bool, true, false}
 use mathlib.Core.List.{List, map}
 use Prim.Native.Nat.{ℕ, ◌+◌, ◌≤◌}
 use native.Mathlib.Nat.{zero-add}
+use lib.Dec.{leb}
 use lib.ListN.{length, take}
 use Rattle.definitions.specs.Family.{BLAKE2b}
 use Rattle.laws_states.specs.Deal.{finished}
 use Rattle.laws_states.specs.Leaves.{rooted, leaf_starts, root_start}
 use Rattle.refusals.specs.Numbers.{accepted, total_over, limit}
+use Rattle.members.proofs.Cuts.{range_fresh}
 use Rattle.members.proofs.Promises as promises
 use Rattle.hash.specs.Hash.{hash_of, no_hash, made_from}
-use Rattle.hash.specs.declared.HashAnswer.{HashAnswer}
+use Rattle.hash.specs.Answers.{HashAnswer}
 use Rattle.laws_states.proofs.Trees.{length_rooted}
 use Rattle.hash.proofs.Digests.{made_hash}
 use Rattle.blake2bp_leaves.specs.Sizes.{blockbytes, degree}
 use Rattle.blake2bp_leaves.specs.Leaves.{leaf_of, words_of, on_leaf}
 use Rattle.blake2bp_leaves.specs.declared.leaves.Leaf.{Leaf}
 use Rattle.blake2bp.specs.Params.{defaults}
-use Rattle.blake2bp.specs.State.{key_bytes, fresh, updated, finalized, digest, hashed, reads, member}
+use Rattle.blake2bp.specs.State.{key_bytes, total, fresh, updated, finalized, digest, hashed, reads, member}
 use Rattle.blake2bp.specs.declared.params.Params.{Params}
-use Rattle.blake2bp.specs.declared.state.StateAnswer.{StateAnswer}
+use Rattle.blake2bp.specs.Answers.{StateAnswer}
 use Rattle.blake2bp.proofs.Cleaned.{Good, good_defaults}
 use Rattle.blake2bp.proofs.Fresh.{front_plain, begun}
 use Rattle.blake2bp.proofs.Setters.{digest_asked, key_short}
@@ -28,12 +31,21 @@ use Rattle.blake2bp.proofs.States.{laws, faithful}
 
 module _ (p : Params) (good : Good p) (m : List ℕ) where
   -- through a state: a refusal of the update is that of the hash
-  module _ {u : StateAnswer} {r : HashAnswer} (e : u ≡ updated (fresh p) m) where
-    pub hashed_past : (u.number ≡ accepted → ⊥) → r ≡ no_hash total_over → r ≡ hashed p m
-    unfolding hashed updated
-    hashed_past = promises.hashed_past member laws reads faithful p (begun p good) m e
+  module _ {u : StateAnswer} (e : u ≡ updated (fresh p) m) where
+    -- a state in range is refused for its total alone
+    total_refused : (u.number ≡ accepted → ⊥) → u.number ≡ total_over
+    unfolding updated
+    total_refused f = split (leb (total (fresh p) + length m) limit) refl
+      where
+        split : (b : Bool) → leb (total (fresh p) + length m) limit ≡ b → u.number ≡ total_over
+        split true h = absurd (f (ap (λ (a : StateAnswer). a.number) e ∙ rw (range_fresh member laws p (begun p good), h)))
+        split false h = ap (λ (a : StateAnswer). a.number) e ∙ rw (range_fresh member laws p (begun p good), h)
 
-    pub hashed_through : u.number ≡ accepted → r ≡ finalized u.state → r ≡ hashed p m
+    pub hashed_past : (u.number ≡ accepted → ⊥) → no_hash u.number ≡ hashed p m
+    unfolding hashed updated
+    hashed_past f = promises.hashed_past member laws reads faithful p (begun p good) m e f (ap no_hash (total_refused f))
+
+    pub hashed_through : {r : HashAnswer} → u.number ≡ accepted → r ≡ finalized u.state → r ≡ hashed p m
     unfolding hashed updated finalized
     hashed_through = promises.hashed_through member laws reads faithful p (begun p good) m e
 

@@ -9,7 +9,7 @@ use Rattle.hash.specs.Hash.{is_digest_length}
 use Rattle.blake2bp_leaves.specs.Sizes.{outbytes}
 use Rattle.blake2bp.specs.Sizes.{keybytes}
 use Rattle.blake2bp.specs.declared.params.Params.{Params}
-use Rattle.blake2bp.specs.declared.params.ParamsAnswer.{ParamsAnswer}
+use Rattle.blake2bp.specs.Answers.{ParamsAnswer}
 
 abbrev pub defaults : Params
 defaults = record { hash_length = outbytes; key_length = 0; key = zeros keybytes }

@@ -16,18 +16,15 @@ use Rattle.members.specs.Keeper as calls
 use Rattle.members.specs.Member.{Member}
 use Rattle.members.specs.Member as members
 use Rattle.hash.specs.Hash.{hash_of, digest_of, no_hash}
-use Rattle.hash.specs.declared.HashAnswer.{HashAnswer}
+use Rattle.hash.specs.Answers.{HashAnswer}
 use Rattle.blake2bp_leaves.specs.Sizes.{degree, blockbytes, outbytes}
 use Rattle.blake2bp_leaves.specs.Leaves.{leaf_of, words_of, on_leaf}
 use Rattle.blake2bp.specs.Sizes.{roombytes, keyrowbytes}
+use Rattle.blake2bp.specs.Answers.{StateAnswer, CountAnswer, LeafCountAnswer, BufferedAnswer}
 use Rattle.blake2bp.specs.Params.{in_range, key_of}
 use Rattle.blake2bp_leaves.specs.declared.leaves.Leaf.{Leaf}
 use Rattle.blake2bp.specs.declared.params.Params.{Params}
 use Rattle.blake2bp.specs.declared.state.State.{State}
-use Rattle.blake2bp.specs.declared.state.StateAnswer.{StateAnswer}
-use Rattle.blake2bp.specs.declared.state.CountAnswer.{CountAnswer}
-use Rattle.blake2bp.specs.declared.state.LeafCountAnswer.{LeafCountAnswer}
-use Rattle.blake2bp.specs.declared.state.BufferedAnswer.{BufferedAnswer}
 
 -- what a state buffers, and the state with something else in its place
 abbrev pub core : State → Held (List Leaf)

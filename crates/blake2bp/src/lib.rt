@@ -10,5 +10,5 @@ mod state;
 pub use blake2bp_leaves::LeafCount;
 pub use counts::MessageCount;
 pub use one_shot::blake2bp;
-pub use params::{Params, ParamsAnswer};
-pub use state::{BufferedAnswer, CountAnswer, LeafCountAnswer, State, StateAnswer};
+pub use params::Params;
+pub use state::State;

@@ -1,22 +1,21 @@
--- What a run of a leaf and the loops that fill a buffer or start the leaves do, turn by turn.
+-- What a run of a leaf does, and where the leaves start, what each gets and the bytes of all.
 -- Assumes nothing.
 use mathlib.Core.Path.{◌≡◌, refl, sym, ap, ◌∙◌}
 use mathlib.Core.Bool.{Bool}
 use mathlib.Core.List.{List, [], ◌∷◌, ◌++◌, map, flat_map}
-use Prim.Native.Nat.{ℕ, ◌+◌, ◌<◌}
-use lib.ListN.{length, set, replicate}
-use lib.Seq.{paste}
-use Rattle.definitions.specs.Words.{pad}
+use Prim.Native.Nat.{ℕ, zero, suc, ◌+◌}
+use native.Mathlib.Omega.{arith}
+use lib.ListN.{length, get_or, drop, drop_of_length-le, replicate}
+use lib.Seq.{drop-cons}
+use Rattle.std.specs.List.{flat_map as flat_lists}
+use Rattle.definitions.specs.Words.{from, pad}
 use Rattle.definitions.specs.Family.{BLAKE2b}
 use Rattle.definitions.specs.Hash.{start, parameter_block, state_bytes}
 use Rattle.definitions.specs.Tree.{parameters}
 use Rattle.laws_blocks.specs.Chain.{through}
 use Rattle.laws_blocks.specs.Blocks.{on_bytes, through_blocks}
 use Rattle.laws_states.specs.Deal.{each}
-use Rattle.laws_states.specs.Leaves.{leaf_starts}
-use Rattle.laws_states.proofs.Deals.{each_turn}
 use Rattle.laws_states.proofs.Images.{through_image}
-use Rattle.laws_words.proofs.Stores.{paste_padded}
 use Rattle.blake2bp_leaves.specs.Leaves.{leaf_of, words_of, state_of, on_leaf}
 use Rattle.blake2bp_leaves.specs.declared.leaves.Leaf.{Leaf}
 use Rattle.blake2bp_leaves.specs.Sizes.{degree, blockbytes, rowbytes, outbytes}
@@ -30,15 +29,17 @@ pub run_made : (l : Leaf) (t : ℕ) (last node : Bool) (d : List ℕ) {w : List 
     → leaf_of w ≡ through blockbytes on_leaf rowbytes l t last node d
 run_made l t last node d e = ap leaf_of (e ∙ sym (through_image words_of blockbytes on_leaf (on_bytes BLAKE2b) words_on_leaf rowbytes l t last node d))
 
--- the bytes of what the leaves hold are those of their words
-pub flat_words : (ls : List Leaf) → flat_map state_of ls ≡ flat_map (state_bytes BLAKE2b) (map words_of ls)
+-- the leaves' states, one behind the other, are those of their words
+pub flat_states : (ls : List Leaf) → flat_lists (λ (b : List ℕ). b) (map state_of ls) ≡ flat_map (state_bytes BLAKE2b) (map words_of ls)
 unfolding flat_map
-flat_words [] = refl
-flat_words (l ∷ ls) = ap (λ (b : List ℕ). state_of l ++ b) (flat_words ls)
+flat_states [] = refl
+flat_states (l ∷ ls) = ap (λ (b : List ℕ). state_of l ++ b) (flat_states ls)
 
--- a turn of a loop that fills a buffer of n bytes: b is stored behind x
-pub filled_turn : (n : ℕ) (x b : List ℕ) {at : ℕ} {buf r : List ℕ} → buf ≡ pad n x → at ≡ length x → r ≡ paste buf at b (length b) → r ≡ pad n (x ++ b)
-filled_turn n x b {at} e f g = g ∙ ap (λ (d : List ℕ). paste d at b (length b)) e ∙ paste_padded n x b f
+-- g of each leaf, at its number
+pub each_at : (g : ℕ → Leaf → Leaf) (ls : List Leaf) (z : Leaf) (i n : ℕ) → i + n ≡ length ls → map (λ j. g j (get_or ls j z)) (from i n) ≡ each g i n (drop i ls)
+unfolding each
+each_at g ls z i zero e = sym (drop_of_length-le ls (omega arith))
+each_at g ls z i (suc n) e = rw (drop-cons ls i z (omega arith), each_at g ls z (suc i) n (omega arith))
 
 -- parameters whose salt and personalization are zeros are those that have none
 pub zeros_are_none : (d k o e : ℕ)
@@ -58,13 +59,5 @@ unfolding start parameter_block pad parameters
 zeros_are_none d k o e = refl
 
 -- where the leaves start
-abbrev pub leaf_start : ℕ → ℕ → ℕ → Leaf → Leaf
-leaf_start d k i l = leaf_of (start BLAKE2b (parameters BLAKE2b degree d k i 0))
-
-pub start_turn : (d k i : ℕ) (ls : List Leaf) {out : List Leaf} {w : List ℕ} (z : Leaf) → i < length ls → out ≡ each (leaf_start d k) 0 i ls
-    → w ≡ start BLAKE2b (parameters BLAKE2b degree d k i 0) → set out i (leaf_of w) ≡ each (leaf_start d k) 0 (i + 1) ls
-start_turn d k i ls z h e f = each_turn (leaf_start d k) ls i z h e (ap leaf_of f)
-
-pub starts_made : (d k : ℕ) (z : Leaf) → each (leaf_start d k) 0 degree (replicate degree z) ≡ map leaf_of (leaf_starts BLAKE2b degree d k)
-unfolding each leaf_starts
-starts_made d k z = refl
+abbrev pub leaf_start : ℕ → ℕ → ℕ → Leaf
+leaf_start d k i = leaf_of (start BLAKE2b (parameters BLAKE2b degree d k i 0))

@@ -8,39 +8,34 @@ ghost use Rattle.laws_states.specs.Leaves.{leaf_starts, root_start};
 ghost use Rattle.blake2bp_leaves.specs.Leaves.{leaf_of};
 
 use crate::leaves::{DEGREE, Leaf};
-use portable::parameter_words;
+use portable::ParameterBlock;
+use std::array;
 
 fn node_words(hash_length: u8, key_length: u8, offset: u64, depth: u8) -> [u64; 8]
     ensures { result ≡ start BLAKE2b (parameters BLAKE2b 4 hash_length key_length offset depth) }
 {
-    parameter_words(
-        hash_length,
+    ParameterBlock {
+        digest_length: hash_length,
         key_length,
-        4,
-        2,
-        0,
-        offset,
-        depth,
-        64,
-        [0; 16],
-        [0; 16],
-    )
+        fanout: 4,
+        depth: 2,
+        leaf_length: 0,
+        node_offset: offset,
+        node_depth: depth,
+        inner_length: 64,
+        salt: [0; 16],
+        personal: [0; 16],
+    }
+    .words()
 }
 
 // The leaf i has the offset i.
 pub fn leaf_words(hash_length: u8, key_length: u8) -> [Leaf; DEGREE]
     ensures { result ≡ map leaf_of (leaf_starts BLAKE2b 4 hash_length key_length) }
 {
-    let zero = Leaf { words: [0; 8] };
-    let mut leaves = [zero; DEGREE];
-    let mut i: usize = 0;
-    while i < DEGREE {
-        let words = node_words(hash_length, key_length, i as u64, 0);
-        let leaf = Leaf { words };
-        leaves[i] = leaf;
-        i += 1;
-    }
-    leaves
+    array::from_fn(|i| Leaf {
+        words: node_words(hash_length, key_length, i as u64, 0),
+    })
 }
 
 pub fn root_words(hash_length: u8, key_length: u8) -> [u64; 8]

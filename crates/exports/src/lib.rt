@@ -11,23 +11,8 @@ ghost use Rattle.hash.specs.Output.{wrote, wrote_over};
 use blake2b::{State, blake2b};
 use guts::{Finalize, LastNode, Stride};
 use portable::compress1_loop;
+use refusals::number_in;
 use words::write_words;
-
-fn finalize_of(yes: bool) -> Finalize {
-    if yes { Finalize::Yes } else { Finalize::No }
-}
-
-fn last_node_of(yes: bool) -> LastNode {
-    if yes { LastNode::Yes } else { LastNode::No }
-}
-
-fn stride_of(parallel: bool) -> Stride {
-    if parallel {
-        Stride::Parallel
-    } else {
-        Stride::Serial
-    }
-}
 
 #[unsafe(no_mangle)]
 pub extern "C" fn sumpillow_compress1_loop(
@@ -40,14 +25,18 @@ pub extern "C" fn sumpillow_compress1_loop(
 )
     requires { count + length input.now < 2 ^ 64 }
 {
-    let h = *words;
+    let stride = if parallel {
+        Stride::Parallel
+    } else {
+        Stride::Serial
+    };
     let run = compress1_loop(
         input,
-        h,
+        *words,
         count,
-        last_node_of(last_node),
-        finalize_of(finalize),
-        stride_of(parallel),
+        LastNode::from(last_node),
+        Finalize::from(finalize),
+        stride,
     );
     let next = run.words;
     *words = next;
@@ -55,9 +44,7 @@ pub extern "C" fn sumpillow_compress1_loop(
 
 #[unsafe(no_mangle)]
 pub extern "C" fn sumpillow_write_words(words: &[u64; 8], out: &mut [u8; 64]) {
-    let h = *words;
-    let bytes = write_words(h);
-    *out = bytes;
+    *out = write_words(*words);
 }
 
 // The digest of 64 bytes, one-shot; the answer's number.
@@ -65,8 +52,7 @@ pub extern "C" fn sumpillow_write_words(words: &[u64; 8], out: &mut [u8; 64]) {
 pub extern "C" fn sumpillow_blake2b(input: &[u8], out: &mut [u8]) -> u8
     ensures { (result ≡ (wrote 64 (length out.old)).number) × (out.new ≡ wrote_over (blake2 BLAKE2b 64 [] input.now) out.old) }
 {
-    let written = blake2b(input).write_bytes(out);
-    written.number
+    number_in(&blake2b(input).write_bytes(out))
 }
 
 // The same through a state and one update.
@@ -75,10 +61,7 @@ pub extern "C" fn sumpillow_state(input: &[u8], out: &mut [u8]) -> u8
     ensures { (result ≡ (wrote 64 (length out.old)).number) × (out.new ≡ wrote_over (blake2 BLAKE2b 64 [] input.now) out.old) }
 {
     let fresh = State::new();
-    let taken = fresh.update(input);
-    let state = taken.state;
-    let done = state.finalize();
-    let hash = done.hash;
-    let written = hash.write_bytes(out);
-    written.number
+    let taken = fresh.update(input).unwrap();
+    let hash = taken.finalize().unwrap();
+    number_in(&hash.write_bytes(out))
 }

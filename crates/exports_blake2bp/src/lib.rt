@@ -7,12 +7,12 @@ ghost use Rattle.definitions.specs.Tree.{BLAKE2bp};
 ghost use Rattle.hash.specs.Output.{wrote, wrote_over};
 
 use blake2bp::blake2bp;
+use refusals::number_in;
 
 // The digest of 64 bytes; the answer's number.
 #[unsafe(no_mangle)]
 pub extern "C" fn sumpillow_blake2bp(input: &[u8], out: &mut [u8]) -> u8
     ensures { (result ≡ (wrote 64 (length out.old)).number) × (out.new ≡ wrote_over (BLAKE2bp 64 [] input.now) out.old) }
 {
-    let written = blake2bp(input).write_bytes(out);
-    written.number
+    number_in(&blake2bp(input).write_bytes(out))
 }

@@ -14,7 +14,6 @@ pub extern "C" fn sumpillow_compress_block(
     last_block: bool,
     last_node: bool,
 ) {
-    let h = *words;
-    let next = compress_block(block, h, count_low, count_high, last_block, last_node);
-    *words = next;
+    let count = u128::from(count_high) << 64 | u128::from(count_low);
+    *words = compress_block(block, *words, count, last_block, last_node);
 }

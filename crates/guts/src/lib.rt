@@ -9,7 +9,7 @@ ghost use Rattle.std.specs.Prelude.{◌≡◌, length, drop};
 ghost use Rattle.laws_blocks.specs.Offsets.{padded_buffer, final_block};
 ghost use Rattle.guts.specs.Guts.{finalizes, is_last_node, final_facts};
 
-pub use storing::{clear, store};
+pub use storing::{clear, padded, store, zeroed};
 
 #[derive(Clone, Copy)]
 pub enum Finalize {
@@ -17,14 +17,19 @@ pub enum Finalize {
     No,
 }
 
+impl From<bool> for Finalize {
+    ghost from_gives = { λ yes made. finalizes made ≡ yes };
+
+    fn from(yes: bool) -> Self {
+        if yes { Finalize::Yes } else { Finalize::No }
+    }
+}
+
 impl Finalize {
     pub fn yes(self) -> bool
         ensures { result ≡ finalizes self }
     {
-        match self {
-            Finalize::Yes => true,
-            Finalize::No => false,
-        }
+        matches!(self, Finalize::Yes)
     }
 }
 
@@ -34,14 +39,19 @@ pub enum LastNode {
     No,
 }
 
+impl From<bool> for LastNode {
+    ghost from_gives = { λ yes made. is_last_node made ≡ yes };
+
+    fn from(yes: bool) -> Self {
+        if yes { LastNode::Yes } else { LastNode::No }
+    }
+}
+
 impl LastNode {
     pub fn yes(self) -> bool
         ensures { result ≡ is_last_node self }
     {
-        match self {
-            LastNode::Yes => true,
-            LastNode::No => false,
-        }
+        matches!(self, LastNode::Yes)
     }
 }
 
@@ -55,17 +65,14 @@ pub enum Stride {
 }
 
 // The input from the offset on: nothing where that is past the end.
-pub fn offset_slice<'a>(input: &'a [u8], offset: usize) -> &'a [u8]
+pub fn offset_slice(input: &[u8], offset: usize) -> &[u8]
     ensures { result.now ≡ drop offset input.now }
 {
-    if offset < input.len() {
-        return &input[offset..];
-    }
-    let end = input.len();
-    &input[end..]
+    input.get(offset..).unwrap_or(&[])
 }
 
 // Makes the buffer ready for final_block: the bytes that are left at the offset and zeros, where a block is not left.
+#[tactic(auto, using(laws_words::proofs::Stores::stored_padded), unfolding(laws_blocks::specs::Offsets::padded_buffer))]
 pub fn pad_final_block(input: &[u8], offset: usize, buffer: &mut [u8])
     ensures { buffer.new ≡ padded_buffer (length buffer.old) input.now offset buffer.old }
 {
@@ -77,15 +84,16 @@ pub fn pad_final_block(input: &[u8], offset: usize, buffer: &mut [u8])
 }
 
 // The block at an offset: the caller's own bytes, or the buffer that was padded for it.
+#[tactic(auto, unfolding(laws_blocks::specs::Offsets::final_block))]
 pub fn final_block<'a>(input: &'a [u8], offset: usize, buffer: &'a [u8]) -> &'a [u8]
     ensures { result.now ≡ final_block (length buffer.now) input.now offset buffer.now }
 {
     let rest = offset_slice(input, offset);
-    let n = buffer.len();
-    if rest.len() < n {
-        return buffer;
+    if rest.len() < buffer.len() {
+        buffer
+    } else {
+        &rest[..buffer.len()]
     }
-    &rest[..n]
 }
 
 // Of the block at an offset: how many of its bytes are the input's, and whether the input ends before the next one.
@@ -100,15 +108,8 @@ pub fn final_facts(input: &[u8], offset: usize, block: usize, row: usize) -> Fin
     ensures { result ≡ final_facts block row input.now offset }
 {
     let rest = offset_slice(input, offset);
-    let n = rest.len();
-    if n < block {
-        return FinalFacts {
-            len: n,
-            may_finalize: n <= row,
-        };
-    }
     FinalFacts {
-        len: block,
-        may_finalize: n <= row,
+        len: block.min(rest.len()),
+        may_finalize: rest.len() <= row,
     }
 }

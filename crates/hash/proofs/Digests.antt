@@ -1,23 +1,24 @@
 -- The laws of digests: their range, comparison and hexadecimal, and each answer case by case but those on an output.
 -- Assumes nothing.
 use mathlib.Core.Path.{◌≡◌, refl, sym, ap, ◌∙◌}
-use mathlib.Core.Bool.{Bool, true, false, and-false, and-eq-true_iff, false≢true}
-use mathlib.Core.List.{List, [], ◌∷◌, ◌++◌, flat_map}
+use mathlib.Core.Bool.{Bool, true, false, and-eq-true_iff, false≢true, ◌&&◌}
+use mathlib.Core.List.{List, [], ◌∷◌, flat_map}
 use Prim.Native.Nat.{ℕ, ◌-◌, ◌*◌, ◌<◌, ◌≤◌}
 use native.Mathlib.Omega.{arith}
 use borrow.Author.Tests.{le-leb, lt-leb, eq-eqb, eqb-true}
 use lib.Dec.{eqb}
+use lib.Pointwise.{pointwise}
 use lib.ListN.{length, take, drop, replicate}
 use lib.Seq.{take-append_seam, length-take-le}
 use Rattle.definitions.specs.Words.{pad}
 use Rattle.laws_words.specs.Bytes.{over}
 use Rattle.laws_words.proofs.Bytes.{pad_whole}
-use Rattle.refusals.specs.Numbers.{accepted, digest_length, bad_record}
+use Rattle.refusals.specs.Numbers.{accepted, digest_length}
 use Rattle.refusals.proofs.Lengths.{length_is, length_bounds}
 use Rattle.hash.specs.Sizes.{longest, longest_hex}
-use Rattle.hash.specs.Hash.{is_digest_length, hash_in_range, hash_of, digest_of, zero_hash, no_hash, made_from, length_answered, same_bytes, compared, hex_of}
+use Rattle.hash.specs.Hash.{is_digest_length, hash_in_range, hash_of, digest_of, zero_hash, no_hash, made_from, length_answered, same_bytes, hex_of}
 use Rattle.hash.specs.declared.Hash.{Hash}
-use Rattle.hash.specs.declared.HashAnswer.{HashAnswer}
+use Rattle.hash.specs.Answers.{HashAnswer}
 
 pub digest_length_is : (n : ℕ) → 1 ≤ n → n ≤ longest → is_digest_length n ≡ true
 digest_length_is = length_is longest
@@ -49,6 +50,14 @@ unfolding same_bytes
 same_self [] = refl
 same_self (x ∷ s) = rw (eq-eqb x x refl) (same_self s)
 
+-- what the library's comparison of slices answers
+pub pointwise_same : (s t : List ℕ) → pointwise eqb s t ≡ same_bytes s t
+unfolding same_bytes
+pointwise_same [] [] = refl
+pointwise_same [] (y ∷ t) = refl
+pointwise_same (x ∷ s) [] = refl
+pointwise_same (x ∷ s) (y ∷ t) = ap (λ (b : Bool). eqb x y && b) (pointwise_same s t)
+
 pub same_when_equal : (s t : List ℕ) → s ≡ t → same_bytes s t ≡ true
 same_when_equal s t e = rw (← e) (same_self s)
 
@@ -61,17 +70,15 @@ equal_when_same (x ∷ s) (y ∷ t) e =
     let p = (and-eq-true_iff (eqb x y) (same_bytes s t)).0 e in
     λ i. eqb-true x y p.0 i ∷ equal_when_same s t p.1 i
 
-pub other_length_differs : (s t : List ℕ) → (length s ≡ length t → ⊥) → same_bytes s t ≡ false
-other_length_differs s t h = split (same_bytes s t) refl
-  where
-    split : (q : Bool) → same_bytes s t ≡ q → same_bytes s t ≡ false
-    split true e = absurd (h (ap length (equal_when_same s t e)))
-    split false e = e
-
 pub length_hex : (d : List ℕ) → length (hex_of d) ≡ 2 * length d
 unfolding hex_of flat_map
 length_hex [] = refl
 length_hex (x ∷ d) = let e = length_hex d in omega arith
+
+-- the digits over the front of an output are found there
+pub hex_front : (d : List ℕ) (out : List ℕ) → take (2 * length d) (over (hex_of d) out) ≡ hex_of d
+unfolding over
+hex_front d out = rw (← length_hex d) (take-append_seam (hex_of d) (drop (length (hex_of d)) out))
 
 -- what is made of 64 bytes
 pub whole_hash : (d : List ℕ) → length d ≡ longest → record { bytes = d; len = longest } ≡ hash_of d
@@ -97,22 +104,6 @@ module _ (h : Hash) where
   unfolding length_answered
   length_known e = rw e
 
-  pub length_refused : hash_in_range h ≡ false → record { number = bad_record; length = 0 } ≡ length_answered h
-  unfolding length_answered
-  length_refused e = rw e
-
-  pub compared_known : (other : List ℕ) → hash_in_range h ≡ true → record { number = accepted; equal = same_bytes (digest_of h) other } ≡ compared h true other
-  unfolding compared
-  compared_known other e = rw e
-
-  pub compared_refused : (other : List ℕ) → hash_in_range h ≡ false → record { number = bad_record; equal = false } ≡ compared h true other
-  unfolding compared
-  compared_refused other e = rw e
-
-  pub compared_with_bad : (other : List ℕ) → record { number = bad_record; equal = false } ≡ compared h false other
-  unfolding compared
-  compared_with_bad other = rw and-false
-
   -- a record in range has as many bytes as it says
   module _ (l : length h.bytes ≡ longest) (e : hash_in_range h ≡ true) where
     pub digest_within : h.len ≤ length h.bytes
@@ -129,9 +120,3 @@ module _ (h : Hash) where
     pub hex_within : 2 * h.len ≤ longest_hex
     unfolding hash_in_range
     hex_within = let b = digest_length_bounds h.len e in omega arith
-
-    pub hex_front : (out : List ℕ) {now : List ℕ} → now ≡ over (hex_of (digest_of h)) out → take (2 * h.len) now ≡ hex_of (digest_of h)
-    unfolding over
-    hex_front out f =
-        ap (take (2 * h.len)) f ∙ ap (λ (n : ℕ). take n (hex_of (digest_of h) ++ drop (length (hex_of (digest_of h))) out)) (sym hex_length)
-        ∙ take-append_seam (hex_of (digest_of h)) (drop (length (hex_of (digest_of h))) out)

@@ -2,37 +2,25 @@
 -- Assumes nothing.
 use mathlib.Core.Path.{◌≡◌, refl, sym, ap, ◌∙◌}
 use mathlib.Core.Bool.{Bool, true, false}
-use mathlib.Core.List.{List, []}
-use Prim.Native.Nat.{ℕ, ◌<◌, ◌≤◌, zero-le}
+use mathlib.Core.List.{List}
+use Prim.Native.Nat.{ℕ, ◌≤◌}
 use native.Mathlib.Omega.{arith}
-use borrow.Author.Tests.{le-leb, lt-leb, leb-true}
+use borrow.Author.Tests.{le-leb, leb-true}
 use lib.Dec.{leb}
 use lib.ListN.{length, drop, length-append, length-drop}
-use lib.Seq.{paste, take-append_seam, drop-append_seam}
+use lib.Seq.{take-append_seam, drop-append_seam}
 use Rattle.laws_words.specs.Bytes.{over}
-use Rattle.laws_words.proofs.Stores.{paste_front}
-use Rattle.refusals.specs.Numbers.{accepted, output_short, bad_record}
+use Rattle.refusals.specs.Numbers.{accepted}
 use Rattle.hash.specs.Sizes.{longest}
 use Rattle.hash.specs.Hash.{hash_in_range, hash_of, digest_of, written_answered, written_over, written_part}
 use Rattle.hash.specs.Output.{wrote, wrote_over, wrote_part}
 use Rattle.hash.specs.declared.Hash.{Hash}
-use Rattle.hash.specs.declared.LengthAnswer.{LengthAnswer}
+use Rattle.hash.specs.Answers.{LengthAnswer}
 use Rattle.hash.proofs.Digests.{hash_in_range_lem, digest_of_hash}
 
--- n bytes of text to an output of `room` bytes
-module _ (n room : ℕ) where
-  pub room_short : room < n → record { number = output_short; length = 0 } ≡ wrote n room
-  room_short h = rw (lt-leb n room h)
-
-  pub room_enough : n ≤ room → record { number = accepted; length = n } ≡ wrote n room
-  room_enough h = rw (le-leb n room h)
-
-  pub wrote_within : (wrote n room).length ≤ room
-  wrote_within = split (leb n room) refl
-    where
-      split : (q : Bool) → leb n room ≡ q → (wrote n room).length ≤ room
-      split true e = rw e (leb-true n room e)
-      split false e = rw e zero-le
+-- n bytes of text to an output with room for them
+pub room_enough : (n room : ℕ) → n ≤ room → record { number = accepted; length = n } ≡ wrote n room
+room_enough n room h = rw (le-leb n room h)
 
 -- a is the answer to a text that is to go to an output
 module _ (text out : List ℕ) {a : LengthAnswer} (e : a ≡ wrote (length text) (length out)) where
@@ -49,16 +37,6 @@ module _ (text out : List ℕ) {a : LengthAnswer} (e : a ≡ wrote (length text)
   pub text_fits : a.number ≡ accepted → length text ≤ length out
   text_fits f = leb-true (length text) (length out) (enough f)
 
-  pub text_there : a.number ≡ accepted → {now : List ℕ} → now ≡ paste out 0 text (length text) → now ≡ wrote_over text out
-  text_there f p = rw (enough f) (p ∙ paste_front out text)
-
-  pub output_kept : (a.number ≡ accepted → ⊥) → out ≡ wrote_over text out
-  output_kept f = split (leb (length text) (length out)) refl
-    where
-      split : (q : Bool) → leb (length text) (length out) ≡ q → out ≡ wrote_over text out
-      split true g = absurd (f (number ∙ rw g refl))
-      split false g = rw g
-
   -- after an accepted write the part that is handed back is the text, and what lies behind it is as it was
   handed_back : a.number ≡ accepted → wrote_part (length text) (wrote_over text out) ≡ text
   unfolding over
@@ -73,16 +51,6 @@ module _ (text out : List ℕ) {a : LengthAnswer} (e : a ≡ wrote (length text)
 
 -- a text of a digest, its bytes or their hexadecimal
 module _ (h : Hash) where
-  module _ (bad : hash_in_range h ≡ false) where
-    pub written_bad : (text out : List ℕ)
-        → (record { number = bad_record; length = 0 } ≡ written_answered h (length text) (length out)) × (out ≡ written_over h text out)
-    unfolding written_answered written_over
-    written_bad text out = (rw bad refl, rw bad refl)
-
-    pub part_bad : (n : ℕ) (out : List ℕ) → [] ≡ written_part h n out
-    unfolding written_part
-    part_bad n out = rw bad
-
   module _ (good : hash_in_range h ≡ true) where
     pub answered_good : (n room : ℕ) → written_answered h n room ≡ wrote n room
     unfolding written_answered
@@ -95,11 +63,6 @@ module _ (h : Hash) where
     pub part_good : (n : ℕ) (out : List ℕ) → written_part h n out ≡ wrote_part n out
     unfolding written_part
     part_good n out = rw good
-
-    pub written_good : (text out : List ℕ) {a : LengthAnswer} {after : List ℕ}
-        → (a ≡ wrote (length text) (length out)) × (after ≡ wrote_over text out)
-        → (a ≡ written_answered h (length text) (length out)) × (after ≡ written_over h text out)
-    written_good text out w = (w.0 ∙ sym (answered_good (length text) (length out)), w.1 ∙ sym (over_good text out))
 
   module _ (text out : List ℕ) {a : LengthAnswer} (e : a ≡ written_answered h (length text) (length out)) (f : a.number ≡ accepted) where
     good : hash_in_range h ≡ true

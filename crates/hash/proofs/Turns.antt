@@ -1,35 +1,16 @@
--- A turn of each loop over the bytes of a digest: comparing them, and writing them in hexadecimal.
+-- A turn of the loop over the bytes of a digest: writing one in hexadecimal.
 -- Assumes nothing.
 use mathlib.Core.Path.{◌≡◌, refl, sym, ap, ◌∙◌}
-use mathlib.Core.Bool.{true, false, ◌&&◌}
 use mathlib.Core.List.{List, [], ◌∷◌, ◌++◌, flat_map}
 use Prim.Native.Nat.{ℕ, suc, ◌+◌, ◌*◌, ◌/◌, ◌%◌, ◌<◌, ◌≤◌}
 use native.Mathlib.Numerals.{add-one}
 use native.Mathlib.Omega.{arith}
-use borrow.Author.Tests.{eq-eqb, ne_eqb}
-use lib.Dec.{eqb}
-use lib.ListN.{length, take, drop, set, length-append, drop_of_length-le}
+use lib.ListN.{length, take, drop, set, length-append}
 use lib.Seq.{drop-cons, set_at, append_snoc, take-suc, length-take-le}
 use Rattle.definitions.specs.Words.{◌!◌}
 use Rattle.laws_words.specs.Bytes.{over}
-use Rattle.hash.specs.Hash.{same_bytes, digit_of, hex_of}
+use Rattle.hash.specs.Hash.{digit_of, hex_of}
 use Rattle.hash.proofs.Digests.{length_hex}
-
--- whether two lists are the same is what is left to compare from the place i on: at i they differ, or agree, or both end
-module _ (s t : List ℕ) (i : ℕ) (left : same_bytes s t ≡ same_bytes (drop i s) (drop i t)) where
-  at_place : i < length s → i < length t → same_bytes s t ≡ (eqb (s ! i) (t ! i) && same_bytes (drop (suc i) s) (drop (suc i) t))
-  unfolding same_bytes
-  at_place h g = left ∙ rw (drop-cons s i 0, drop-cons t i 0)
-
-  pub same_differ : i < length s → i < length t → (s ! i ≡ t ! i → ⊥) → same_bytes s t ≡ false
-  same_differ h g f = at_place h g ∙ rw (ne_eqb (s ! i) (t ! i) f)
-
-  pub same_agree : i < length s → i < length t → s ! i ≡ t ! i → same_bytes s t ≡ same_bytes (drop (i + 1) s) (drop (i + 1) t)
-  same_agree h g f = at_place h g ∙ rw (eq-eqb (s ! i) (t ! i) f, add-one)
-
-  pub same_ended : length s ≤ i → length t ≤ i → same_bytes s t ≡ true
-  unfolding same_bytes
-  same_ended h g = left ∙ rw (drop_of_length-le s {i = i} h, drop_of_length-le t {i = i} g)
 
 one_more : (s : List ℕ) (i : ℕ) → i < length s → take (i + 1) s ≡ take i s ++ (s ! i ∷ [])
 one_more s i h = ap (λ (k : ℕ). take k s) (add-one i) ∙ take-suc s i 0 h

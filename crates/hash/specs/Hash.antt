@@ -3,14 +3,12 @@
 use Rattle.std.specs.Prelude.{Bool, true, false, cond, ◌&&◌, ℕ, ◌+◌, ◌/◌, ◌%◌, leb, ltb, eqb, length, take}
 use mathlib.Core.List.{List, [], ◌∷◌, flat_map}
 use Rattle.definitions.specs.Words.{pad}
-use Rattle.laws_words.specs.Bytes.{zeros}
 use Rattle.refusals.specs.Numbers.{accepted, digest_length, bad_record, is_length}
 use Rattle.hash.specs.Sizes.{longest}
 use Rattle.hash.specs.Output.{wrote, wrote_over, wrote_part}
 use Rattle.hash.specs.declared.Hash.{Hash}
-use Rattle.hash.specs.declared.HashAnswer.{HashAnswer}
-use Rattle.hash.specs.declared.LengthAnswer.{LengthAnswer}
-use Rattle.hash.specs.declared.EqualAnswer.{EqualAnswer}
+use Rattle.hash.specs.Answers.{HashAnswer, LengthAnswer, EqualAnswer}
+pub use Rattle.hash.specs.Answers.{zero_hash}
 
 -- a digest has 1 to 64 bytes
 abbrev pub is_digest_length : ℕ → Bool
@@ -27,10 +25,6 @@ hash_of d = record { bytes = pad longest d; len = length d }
 -- the digest of a record
 abbrev pub digest_of : Hash → List ℕ
 digest_of h = take h.len h.bytes
-
--- what a refusal answers in place of a digest
-abbrev pub zero_hash : Hash
-zero_hash = record { bytes = zeros longest; len = 0 }
 
 abbrev pub no_hash : ℕ → HashAnswer
 no_hash refusal = record { number = refusal; hash = zero_hash }

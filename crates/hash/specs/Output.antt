@@ -3,7 +3,7 @@
 use Rattle.std.specs.Prelude.{cond, List, ℕ, leb, length, take}
 use Rattle.laws_words.specs.Bytes.{over}
 use Rattle.refusals.specs.Numbers.{accepted, output_short}
-use Rattle.hash.specs.declared.LengthAnswer.{LengthAnswer}
+use Rattle.hash.specs.Answers.{LengthAnswer}
 
 -- n bytes of text to an output of `room` bytes: 11 where that is shorter
 abbrev pub wrote : ℕ → ℕ → LengthAnswer

@@ -4,3 +4,4 @@ pub mod Bytes
 pub mod Stores
 pub mod Compression
 pub mod Parameters
+pub mod FromFn

@@ -13,8 +13,8 @@ use Rattle.refusals.specs.Numbers.{accepted}
 use Rattle.many.specs.Job.{job_refusal}
 use Rattle.many.specs.Batch.{first_bad, jobs_run}
 use Rattle.many.specs.declared.placed.HashManyJob.{HashManyJob}
-use Rattle.many.specs.declared.batch.FirstBad.{FirstBad}
-use Rattle.many.specs.declared.batch.JobsAnswer.{JobsAnswer}
+use Rattle.many.specs.Answers.{FirstBad}
+use Rattle.many.specs.Answers.{JobsAnswer}
 use Rattle.many.proofs.Batches.{first_here, first_later, batch_settled}
 
 -- of jobs over n bytes of data, the first bad one stands at k

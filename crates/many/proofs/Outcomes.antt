@@ -14,8 +14,8 @@ use Rattle.many_work.proofs.Runs.{run_finishes, run_keeps_range}
 use Rattle.many.specs.Job.{input_of, run_over, job_refusal}
 use Rattle.many.specs.Batch.{mapped, first_bad, jobs_run}
 use Rattle.many.specs.declared.placed.HashManyJob.{HashManyJob}
-use Rattle.many.specs.declared.batch.FirstBad.{FirstBad}
-use Rattle.many.specs.declared.batch.JobsAnswer.{JobsAnswer}
+use Rattle.many.specs.Answers.{FirstBad}
+use Rattle.many.specs.Answers.{JobsAnswer}
 use Rattle.many.proofs.Mapped.{at_place, behind, unmoved, length_mapped, mapped_again}
 use Rattle.many.proofs.Jobs.{accepted_range, finished_accepted, over_finished}
 use Rattle.many.proofs.Batches.{used_accepted, none_bad, batch_refused, batch_bad, batch_run}

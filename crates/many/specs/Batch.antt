@@ -5,8 +5,8 @@ use Rattle.refusals.specs.Numbers.{accepted, batch_long}
 use Rattle.refusals.specs.Tests.{test, tested}
 use Rattle.many.specs.Job.{run_over, job_refusal}
 use Rattle.many.specs.declared.placed.HashManyJob.{HashManyJob}
-use Rattle.many.specs.declared.batch.FirstBad.{FirstBad}
-use Rattle.many.specs.declared.batch.JobsAnswer.{JobsAnswer}
+use Rattle.many.specs.Answers.{FirstBad}
+use Rattle.many.specs.Answers.{JobsAnswer}
 
 -- a batch has at most so many jobs
 abbrev pub most_jobs : ℕ

@@ -4,12 +4,12 @@ use Rattle.std.specs.Prelude.{Bool, ◌||◌, List, [], ◌∷◌, ℕ, ◌+◌,
 use Rattle.refusals.specs.Numbers.{accepted, total_over, piece_outside, bad_record, limit, piece_ok}
 use Rattle.refusals.specs.Tests.{Test, test, tested, first}
 use Rattle.blake2b.specs.Params.{in_range}
-use Rattle.hash.specs.declared.HashAnswer.{HashAnswer}
+use Rattle.hash.specs.Answers.{HashAnswer}
 use Rattle.blake2b.specs.declared.params.Params.{Params}
 use Rattle.many_work.specs.Work.{zero_work, work_in_range, key_bytes, begun, run_on, work_hash}
 use Rattle.many_work.specs.declared.work.Work.{Work}
 use Rattle.many.specs.declared.placed.HashManyJob.{HashManyJob}
-use Rattle.many.specs.declared.placed.JobAnswer.{JobAnswer}
+use Rattle.many.specs.Answers.{JobAnswer}
 
 -- the job of some work for n bytes from a place on
 abbrev pub placed : Work → ℕ → ℕ → HashManyJob

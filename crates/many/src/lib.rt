@@ -5,5 +5,5 @@
 mod batch;
 mod placed;
 
-pub use batch::{JobsAnswer, MOST_JOBS, hash_many};
-pub use placed::{HashManyJob, JobAnswer};
+pub use batch::{MOST_JOBS, hash_many};
+pub use placed::HashManyJob;

@@ -2,12 +2,15 @@
 // Made, refused, run and asked here; the work itself is the crate `many_work`'s.
 ghost use Rattle.std.specs.Prelude.{◌≡◌, length};
 ghost use Rattle.refusals.specs.Numbers.{accepted};
-ghost use Rattle.many.specs.Job.{zero_job, no_job, made_job, run_over, job_refusal, job_hash};
+ghost use Rattle.refusals.specs.Answers.{number_in};
+ghost use Rattle.hash.specs.Answers.{as_hash_answer};
+ghost use Rattle.many.specs.Answers.{as_job_answer};
+ghost use Rattle.many.specs.Job.{zero_job, made_job, run_over, job_refusal, job_hash};
 
 use blake2b::Params;
-use hash::HashAnswer;
+use hash::Hash;
 use many_work::{Work, begin, has_room};
-use refusals::{ACCEPTED, PIECE, RECORD, TOTAL, piece_ok};
+use refusals::{Refusal, piece_ok};
 
 #[derive(Clone, Copy)]
 pub struct HashManyJob {
@@ -16,96 +19,73 @@ pub struct HashManyJob {
     pub(crate) length: usize,
 }
 
-#[derive(Clone, Copy)]
-pub struct JobAnswer {
-    pub number: u8,
-    pub job: HashManyJob,
-}
-
-fn refused_job(number: u8) -> JobAnswer
-    ensures { result ≡ no_job number }
-{
-    JobAnswer {
-        number,
-        job: HashManyJob::zero(),
-    }
-}
-
 impl HashManyJob {
-    // What a refusal answers in place of a job, and what an unused place of a batch may hold.
+    // What an unused place of a batch may hold: a job that every call refuses.
     pub fn zero() -> Self
         ensures { result ≡ zero_job }
     {
-        let work = Work::zero();
         HashManyJob {
-            work,
+            work: Work::zero(),
             start: 0,
             length: 0,
         }
     }
 
     // A job whose input is what the range holds in the data of the batch that runs it.
-    pub fn new(params: Params, data: &[u8], start: usize, length: usize) -> JobAnswer
-        ensures { result ≡ made_job params «data».now start length }
+    #[tactic(auto, unfolding(crate::specs::Job::made_job))]
+    pub fn new(params: Params, data: &[u8], start: usize, length: usize) -> Result<Self, Refusal>
+        ensures { as_job_answer zero_job result ≡ made_job params «data».now start length }
     {
         if !params.in_range() {
-            return refused_job(RECORD);
+            return Err(Refusal::Record);
         }
         if !piece_ok(start, length, data.len()) {
-            return refused_job(PIECE);
+            return Err(Refusal::Piece);
         }
         if !has_room(params, length) {
-            return refused_job(TOTAL);
+            return Err(Refusal::Total);
         }
-        let work = begin(params, length);
-        JobAnswer {
-            number: ACCEPTED,
-            job: HashManyJob {
-                work,
-                start,
-                length,
-            },
-        }
+        Ok(HashManyJob {
+            work: begin(params, length),
+            start,
+            length,
+        })
     }
 
-    // What a batch over so many bytes of data refuses the job with.
-    pub(crate) fn refusal(self, data_length: usize) -> u8
-        ensures { result ≡ job_refusal data_length self }
+    // Whether a batch over so many bytes of data may run the job.
+    #[tactic(auto, unfolding(crate::specs::Job::job_refusal))]
+    pub(crate) fn check(self, data_length: usize) -> Result<(), Refusal>
+        ensures { number_in result ≡ job_refusal data_length self }
     {
-        let work = self.work;
-        if !work.in_range(self.length) {
-            return RECORD;
+        if !self.work.in_range(self.length) {
+            return Err(Refusal::Record);
         }
-        if work.finished || piece_ok(self.start, self.length, data_length) {
-            return ACCEPTED;
+        if self.work.finished || piece_ok(self.start, self.length, data_length) {
+            return Ok(());
         }
-        PIECE
+        Err(Refusal::Piece)
     }
 
     // A job of a batch over the data: run where it is not finished.
+    #[tactic(auto, unfolding(crate::specs::Job::job_refusal, refusals::specs::Numbers::piece_ok, refusals::specs::Numbers::limit, many_work::specs::Work::work_in_range, many_work::specs::Work::run_on))]
     pub(crate) fn run_over(self, data: &[u8]) -> Self
         requires { job_refusal (length «data».now) self ≡ accepted }
         ensures { result ≡ run_over «data».now self }
     {
-        let work = self.work;
-        if work.finished {
+        if self.work.finished {
             return self;
         }
-        let start = self.start;
-        let end = start + self.length;
-        let next = work.run(&data[start..end]);
+        let end = self.start + self.length;
         HashManyJob {
-            work: next,
-            start,
-            length: self.length,
+            work: self.work.run(&data[self.start..end]),
+            ..self
         }
     }
 
     // The digest of a finished job.
-    pub fn to_hash(self) -> HashAnswer
-        ensures { result ≡ job_hash self }
+    pub fn to_hash(self) -> Result<Hash, Refusal>
+        ensures { as_hash_answer result ≡ job_hash self }
     {
-        let work = self.work;
-        work.to_hash(self.length)
+        self.work.to_hash(self.length)
     }
 }

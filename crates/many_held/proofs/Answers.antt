@@ -5,14 +5,18 @@ use mathlib.Core.Bool.{Bool, true, false}
 use mathlib.Core.List.{List, []}
 use Prim.Native.Nat.{ℕ, ◌+◌, ◌<◌, ◌≤◌}
 use native.Mathlib.Omega.{arith}
-use borrow.Author.Tests.{le-leb, leb-true}
+use borrow.Author.Tests.{le-leb, leb-true, ne_eqb}
 use lib.Dec.{leb}
 use lib.ListN.{length}
 use denote.Ref.{Bor}
 use Rattle.definitions.specs.Family.{BLAKE2b}
 use Rattle.definitions.specs.Hash.{hash}
 use Rattle.refusals.specs.Numbers.{accepted, total_over, job_unfinished, bad_record, limit}
+use Rattle.refusals.specs.Answers.{number_of}
+use Rattle.refusals.specs.declared.refusal.Refusal.{Refusal}
+use Rattle.refusals.proofs.Settled.{never_accepted}
 use Rattle.hash.specs.Hash.{hash_of, no_hash}
+use Rattle.hash.specs.Answers.{HashAnswer}
 use Rattle.blake2b_state.specs.Sizes.{blockbytes}
 use Rattle.blake2b.specs.Params.{in_range, asked, key_of, Clean}
 use Rattle.blake2b.specs.Member.{hashed}
@@ -24,9 +28,14 @@ use Rattle.many_work.specs.declared.work.Work.{Work}
 use Rattle.many_work.proofs.Runs.{begun_range, begun_unfinished, run_again, run_keeps_range, run_digest, run_one_shot, at_once, zero_out_of_range}
 use Rattle.many_held.specs.Steps.{no_work, made_work, ran_work, unless_refused}
 use Rattle.many_held.specs.HeldJob.{work_of, answered, made_job, ran_job, job_hash}
-use Rattle.many_held.specs.declared.steps.WorkAnswer.{WorkAnswer}
+use Rattle.many_held.specs.Answers.{WorkAnswer, JobAnswer}
 use Rattle.many_held.specs.declared.held_job.HashManyJob.{HashManyJob}
-use Rattle.many_held.proofs.StepCases.{refused_before, not_refused}
+
+-- a digest that is asked, unless something was refused before
+module _ (number : ℕ) (a : HashAnswer) where
+  refused_before : (number ≡ accepted → ⊥) → unless_refused number a ≡ no_hash number
+  unfolding unless_refused
+  refused_before e = rw (ne_eqb number accepted e)
 
 -- running
 module _ (w : Work) (m : List ℕ) where
@@ -39,12 +48,8 @@ module _ (w : Work) (m : List ℕ) where
   ran_outside e = rw e
 
 ran_twice : (w : Work) (m : List ℕ) → ran_work (ran_work w m).work m ≡ ran_work w m
-ran_twice w m = split (work_in_range w (length m)) refl
-  where
-    split : (b : Bool) → work_in_range w (length m) ≡ b → ran_work (ran_work w m).work m ≡ ran_work w m
-    split true e =
-        rw (ran_within w m e) (ran_within (run_on m w) m (run_keeps_range m w (length m) ∙ e) ∙ ap (λ (v : Work). record { number = accepted; work = v }) (run_again m m w))
-    split false e = rw (ran_outside w m e) (ran_outside w m e)
+unfolding ran_work
+ran_twice w m = grind (arith, run_again, run_keeps_range)
 
 -- running a job again changes nothing: it answers the same number and the same job, whatever the record
 pub twice : (j : HashManyJob) → ran_job (ran_job j).job ≡ ran_job j
@@ -77,12 +82,13 @@ module _ (p : Params) (whole : length p.key_block ≡ blockbytes) (m : List ℕ)
 
   -- made, run and asked, unless the making was refused: what the one-shot call answers
   pub through : unless_refused (made_work p m).number (work_hash (ran_work (made_work p m).work m).work (length m)) ≡ hashed p m
+  unfolding unless_refused
   through =
       by_made (λ a. unless_refused a.number (work_hash (ran_work a.work m).work (length m)) ≡ hashed p m)
       (λ e f.
       let run = ran_within (begun p (length m)) m (begun_range p e (length m) f) in
-      sym (not_refused accepted _ refl) ∙ ap (λ (a : WorkAnswer). work_hash a.work (length m)) run ∙ run_one_shot p e whole m f)
-      (λ r bad g. sym (refused_before r _ bad refl) ∙ sym g)
+      ap (λ (a : WorkAnswer). work_hash a.work (length m)) run ∙ run_one_shot p e whole m f)
+      (λ r bad g. refused_before r _ bad ∙ sym g)
 
   -- what the making of a job means that was accepted
   record Made (a : WorkAnswer) : Type 0 where
@@ -128,10 +134,30 @@ module _ (p : Params) (whole : length p.key_block ≡ blockbytes) (x : Bor (List
     made_unfinished some = rw was.is (begun_unfinished p was.good (length m) was.within some)
 
     -- with a key and no input it is finished when it is made, and has its digest without a run
-    pub keyed_empty : 0 < p.key_length → m ≡ [] → ((made_job p x).job.finished ≡ true) × (job_hash (made_job p x).job ≡ hashed p m)
+    pub keyed_empty : 0 < p.key_length → m ≡ [] → ((made_job p x).job.work.finished ≡ true) × (job_hash (made_job p x).job ≡ hashed p m)
     keyed_empty k z =
         let keyed = le-leb 1 p.key_length k in
         let f : finished_at_once p (length m) ≡ true = rw (keyed, z) in (
           ap (λ (a : WorkAnswer). a.work.finished) was.is ∙ f,
           ap (λ (a : WorkAnswer). work_hash a.work (length m)) was.is ∙ at_once p was.good whole m was.within f,
         )
+
+  -- as the code has it: a making that is refused is the one-shot refusal, and else the run is accepted and its digest is the one-shot answer
+  pub not_made : (e : Refusal) {z : HashManyJob} → record { number = number_of e; job = z } ≡ made_job p x → no_hash (number_of e) ≡ hashed p x.now
+  not_made e f =
+      let asked = work_hash (ran_work (made_work p x.now).work x.now).work (length x.now) in
+      sym (refused_before (number_of e) asked (never_accepted e))
+      ∙ ap (λ (a : JobAnswer). unless_refused a.number asked) f
+      ∙ through p whole x.now
+
+  module _ {j : HashManyJob} (m : record { number = accepted; job = j } ≡ made_job p x) where
+    pub run_not_refused : (e : Refusal) {k : HashManyJob} → record { number = number_of e; job = k } ≡ ran_job j → ⊥
+    run_not_refused e f =
+        never_accepted e
+        (ap (λ (a : JobAnswer). a.number) f ∙ ap (λ (a : JobAnswer). (ran_job a.job).number) m ∙ run_accepted (ap (λ (a : JobAnswer). a.number) (sym m)))
+
+    pub digest_through : {k : HashManyJob} → record { number = accepted; job = k } ≡ ran_job j → job_hash k ≡ hashed p x.now
+    digest_through f =
+        ap (λ (a : JobAnswer). job_hash a.job) f
+        ∙ ap (λ (a : JobAnswer). job_hash (ran_job a.job).job) m
+        ∙ digest_of_slice (ap (λ (a : JobAnswer). a.number) (sym m))

@@ -1,4 +1,2 @@
 pub mod Answers
-pub mod Ownership
-pub mod StepCases
 pub mod Unique

@@ -2,22 +2,21 @@
 -- Assumes nothing.
 use Rattle.std.specs.Prelude.{List, ℕ, length}
 use Rattle.std.specs.Borrow.{Bor}
-use Rattle.hash.specs.declared.HashAnswer.{HashAnswer}
+use Rattle.hash.specs.Answers.{HashAnswer}
 use Rattle.blake2b.specs.declared.params.Params.{Params}
 use Rattle.many_work.specs.Work.{work_hash}
 use Rattle.many_work.specs.declared.work.Work.{Work}
 use Rattle.many_held.specs.Steps.{made_work, ran_work}
-use Rattle.many_held.specs.declared.steps.WorkAnswer.{WorkAnswer}
+use Rattle.many_held.specs.Answers.{WorkAnswer, JobAnswer}
 use Rattle.many_held.specs.declared.held_job.HashManyJob.{HashManyJob}
-use Rattle.many_held.specs.declared.held_job.JobAnswer.{JobAnswer}
 
 -- the work of a job
 abbrev pub work_of : HashManyJob → Work
-work_of j = record { words = j.words; count = j.count; last_node = j.last_node; hash_length = j.hash_length; finished = j.finished }
+work_of j = j.work
 
 -- the job of some work that holds an input
 abbrev pub holding : Work → Bor (List ℕ) → HashManyJob
-holding w x = record { words = w.words; count = w.count; last_node = w.last_node; hash_length = w.hash_length; input = x; finished = w.finished }
+holding w x = record { work = w; input = x }
 
 abbrev pub answered : WorkAnswer → Bor (List ℕ) → JobAnswer
 answered a x = record { number = a.number; job = holding a.work x }

@@ -5,11 +5,11 @@ use Rattle.refusals.specs.Numbers.{accepted, total_over, bad_record, limit}
 use Rattle.refusals.specs.Tests.{Test, test, tested}
 use Rattle.hash.specs.Hash.{no_hash}
 use Rattle.blake2b.specs.Params.{in_range}
-use Rattle.hash.specs.declared.HashAnswer.{HashAnswer}
+use Rattle.hash.specs.Answers.{HashAnswer}
 use Rattle.blake2b.specs.declared.params.Params.{Params}
 use Rattle.many_work.specs.Work.{zero_work, work_in_range, key_bytes, begun, run_on}
 use Rattle.many_work.specs.declared.work.Work.{Work}
-use Rattle.many_held.specs.declared.steps.WorkAnswer.{WorkAnswer}
+use Rattle.many_held.specs.Answers.{WorkAnswer}
 
 abbrev pub no_work : ℕ → WorkAnswer
 no_work refusal = record { number = refusal; work = zero_work }

@@ -1,95 +1,67 @@
-// A job beside the slice that it keeps. Each call takes the job apart, leaves the work to a step, and puts it together again.
-// None of them holds a branch: the steps do, over plain work and a slice.
+// A job beside the slice that it keeps: what is done to its work is the crate `many_work`'s.
 ghost use Rattle.std.specs.Prelude.{◌≡◌};
+ghost use Rattle.hash.specs.Answers.{as_hash_answer};
 ghost use Rattle.blake2b.specs.Member.{hashed};
-ghost use Rattle.many_held.specs.HeldJob.{made_job, ran_job, job_hash};
+ghost use Rattle.many_work.specs.Work.{zero_work};
+ghost use Rattle.many_held.specs.Answers.{as_job_answer};
+ghost use Rattle.many_held.specs.HeldJob.{holding, made_job, ran_job, job_hash};
 
-use crate::steps::{digest, make, run, unless_refused};
 use blake2b::Params;
-use hash::HashAnswer;
-use many_work::Work;
+use hash::Hash;
+use many_work::{Work, begin, has_room};
+use refusals::Refusal;
 
 #[derive(Clone, Copy)]
 pub struct HashManyJob<'a> {
-    pub(crate) words: [u64; 8],
-    // The bytes of the key block, where there is one.
-    pub(crate) count: u64,
-    pub(crate) last_node: bool,
-    pub(crate) hash_length: u8,
+    pub(crate) work: Work,
     pub(crate) input: &'a [u8],
-    pub(crate) finished: bool,
-}
-
-#[derive(Clone, Copy)]
-pub struct JobAnswer<'a> {
-    pub number: u8,
-    pub job: HashManyJob<'a>,
 }
 
 impl<'a> HashManyJob<'a> {
-    pub fn new(params: Params, input: &'a [u8]) -> JobAnswer<'a>
-        ensures { result ≡ made_job params input.entry }
+    #[tactic(auto, unfolding(crate::specs::Steps::made_work))]
+    pub fn new(params: Params, input: &'a [u8]) -> Result<Self, Refusal>
+        ensures { as_job_answer (holding zero_work input.entry) result ≡ made_job params input.entry }
     {
-        let made = make(params, input);
-        let words = made.work.words;
-        JobAnswer {
-            number: made.number,
-            job: HashManyJob {
-                words,
-                count: made.work.count,
-                last_node: made.work.last_node,
-                hash_length: made.work.hash_length,
-                input,
-                finished: made.work.finished,
-            },
+        if !params.in_range() {
+            return Err(Refusal::Record);
         }
+        if !has_room(params, input.len()) {
+            return Err(Refusal::Total);
+        }
+        Ok(HashManyJob {
+            work: begin(params, input.len()),
+            input,
+        })
     }
 
-    pub fn run(self) -> JobAnswer<'a>
-        ensures { result ≡ ran_job self.entry }
+    // A finished job is not run again.
+    #[tactic(auto, unfolding(crate::specs::Steps::ran_work, many_work::specs::Work::run_on, many_work::specs::Work::work_in_range, refusals::specs::Numbers::limit))]
+    pub fn run(self) -> Result<Self, Refusal>
+        ensures { as_job_answer self.entry result ≡ ran_job self.entry }
     {
-        let work = Work {
-            words: self.words,
-            count: self.count,
-            last_node: self.last_node,
-            hash_length: self.hash_length,
-            finished: self.finished,
-        };
-        let after = run(work, self.input);
-        let words = after.work.words;
-        JobAnswer {
-            number: after.number,
-            job: HashManyJob {
-                words,
-                count: after.work.count,
-                last_node: after.work.last_node,
-                hash_length: after.work.hash_length,
-                input: self.input,
-                finished: after.work.finished,
-            },
+        if !self.work.in_range(self.input.len()) {
+            return Err(Refusal::Record);
         }
+        if self.work.finished {
+            return Ok(self);
+        }
+        Ok(HashManyJob {
+            work: self.work.run(self.input),
+            input: self.input,
+        })
     }
 
     // The digest of a finished job.
-    pub fn to_hash(self) -> HashAnswer
-        ensures { result ≡ job_hash self.entry }
+    pub fn to_hash(self) -> Result<Hash, Refusal>
+        ensures { as_hash_answer result ≡ job_hash self.entry }
     {
-        let work = Work {
-            words: self.words,
-            count: self.count,
-            last_node: self.last_node,
-            hash_length: self.hash_length,
-            finished: self.finished,
-        };
-        digest(work, self.input)
+        self.work.to_hash(self.input.len())
     }
 }
 
 // A job that is made, run and asked, for callers that hold no job: it answers what `Params::hash` does.
-pub fn hash_through_job(params: Params, input: &[u8]) -> HashAnswer
-    ensures { result ≡ hashed params input.now }
+pub fn hash_through_job(params: Params, input: &[u8]) -> Result<Hash, Refusal>
+    ensures { as_hash_answer result ≡ hashed params input.now }
 {
-    let made = HashManyJob::new(params, input);
-    let ran = made.job.run();
-    unless_refused(made.number, ran.job.to_hash())
+    HashManyJob::new(params, input)?.run()?.to_hash()
 }

@@ -3,6 +3,5 @@
 // Module 4: a hash job that keeps the caller's input, not a copy, made, run and asked one at a time.
 // Public: every call is total, and its promise settles its whole answer.
 mod held_job;
-mod steps;
 
-pub use held_job::{HashManyJob, JobAnswer, hash_through_job};
+pub use held_job::{HashManyJob, hash_through_job};

@@ -10,7 +10,7 @@ use Rattle.refusals.specs.Tests.{Test, test, tested}
 use Rattle.hash.specs.Hash.{is_digest_length, hash_of, no_hash}
 use Rattle.blake2b_state.specs.Sizes.{blockbytes}
 use Rattle.blake2b.specs.Params.{asked}
-use Rattle.hash.specs.declared.HashAnswer.{HashAnswer}
+use Rattle.hash.specs.Answers.{HashAnswer}
 use Rattle.blake2b.specs.declared.params.Params.{Params}
 use Rattle.many_work.specs.declared.work.Work.{Work}
 

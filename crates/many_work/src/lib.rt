@@ -2,7 +2,6 @@
 
 // The work of a hash job, wherever its input stands: how it starts, its range, its run and its digest.
 // Internal: a piece that lies outside its data is for the layers above to refuse.
-mod blocks;
 mod start;
 mod work;
 

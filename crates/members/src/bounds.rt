@@ -1,47 +1,39 @@
-// The ranges of refusal 14 that a state keeps, over a member's bounds as plain numbers.
-// One test for every member: its own function names the bounds.
-ghost use Rattle.std.specs.Prelude.{◌≡◌, ◌<◌};
-ghost use Rattle.refusals.specs.Numbers.{limit, is_length};
+// The ranges of refusal 14 that a state keeps, by the bounds of its member.
+// One test for every member, which names its bounds.
+ghost use Rattle.std.specs.Prelude.{◌≡◌, ◌+◌, ◌*◌, ◌^◌, ◌<◌, SomeIff};
+ghost use Rattle.refusals.specs.Numbers.{limit};
 ghost use Rattle.members.specs.Keeper.{range_of};
 
-use refusals::LIMIT;
-
-fn is_length(most: usize, n: usize) -> bool
-    ensures { result ≡ is_length most n }
-{
-    1 <= n && n <= most
+#[derive(Clone, Copy)]
+pub struct Bounds {
+    // The longest digest.
+    pub most: usize,
+    // The bytes of the buffer.
+    pub room: usize,
+    // The bytes that came for each one counted.
+    pub unit: u64,
+    // What a key adds to the total.
+    pub key: u64,
 }
 
-// The longest digest, the bytes of the buffer, the bytes that came for each one counted, and what a key adds to the total; then a state's fields.
-pub fn in_bounds(
-    most: usize,
-    room: usize,
-    unit: u64,
-    key: u64,
-    hash_length: u8,
-    buflen: usize,
-    count: u64,
-    is_keyed: bool,
-) -> bool
-    requires { 0 < unit }
-    ensures { result ≡ range_of (record { most = most; room = room; unit = unit; key = key; limit = limit }) hash_length buflen count is_keyed }
-{
-    if !is_length(most, hash_length as usize) {
-        return false;
+impl Bounds {
+    // The message bytes and key block bytes that came: none where they are more than the limit.
+    fn total(self, buflen: usize, count: u64) -> Option<u64>
+        ensures { SomeIff result (self.unit * count + buflen < 2 ^ 64) (self.unit * count + buflen) }
+    {
+        self.unit.checked_mul(count)?.checked_add(buflen as u64)
     }
-    if buflen > room {
-        return false;
+
+    // Whether a state with these fields keeps its ranges.
+    #[tactic(auto, unfolding(crate::specs::Keeper::range_of, refusals::specs::Numbers::limit))]
+    pub fn admits(self, hash_length: u8, buflen: usize, count: u64, is_keyed: bool) -> bool
+        ensures { result ≡ range_of (record { most = self.most; room = self.room; unit = self.unit; key = self.key; limit = limit }) hash_length buflen count is_keyed }
+    {
+        let least = if is_keyed { self.key } else { 0 };
+        (1..=self.most).contains(&(hash_length as usize))
+            && buflen <= self.room
+            && self
+                .total(buflen, count)
+                .is_some_and(|total| least <= total)
     }
-    if count > LIMIT / unit {
-        return false;
-    }
-    let gone = unit * count;
-    let held = buflen as u64;
-    if held > LIMIT - gone {
-        return false;
-    }
-    if is_keyed {
-        return key <= gone + held;
-    }
-    true
 }

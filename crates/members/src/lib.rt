@@ -4,4 +4,4 @@
 // The one running code is the test of a state's ranges, which the members share.
 mod bounds;
 
-pub use bounds::in_bounds;
+pub use bounds::Bounds;

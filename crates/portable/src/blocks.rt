@@ -7,9 +7,9 @@ ghost use Rattle.laws_blocks.specs.Blocks.{through_blocks};
 ghost use Rattle.guts.specs.Guts.{finalizes, is_last_node};
 ghost use Rattle.portable.specs.Strides.{padded_blockbytes};
 
-use crate::widths::{BLOCKBYTES, count_high, count_low, padded_blockbytes, zero_block};
+use crate::widths::{BLOCKBYTES, padded_blockbytes};
 use compression::compress_block;
-use guts::{Finalize, LastNode, Stride, final_block, final_facts, pad_final_block};
+use guts::{Finalize, LastNode, Stride, final_block, final_facts, pad_final_block, zeroed};
 
 // What a run of the loop hands back.
 #[derive(Clone, Copy)]
@@ -17,22 +17,13 @@ pub struct Compressed {
     pub words: [u64; 8],
 }
 
-fn both(a: bool, b: bool) -> bool
-    ensures { result ≡ (a && b) }
-{
-    if a { b } else { false }
-}
-
 // Where the last of the blocks starts that begin at each multiple of row.
+#[tactic(auto, unfolding(laws_blocks::specs::Chain::spare))]
 fn final_offset(n: usize, row: usize) -> usize
     requires { 0 < row }
     ensures { result ≡ row * spare row 0 n }
 {
-    if n == 0 {
-        return 0;
-    }
-    let m = n - 1;
-    m - m % row
+    n.saturating_sub(1) / row * row
 }
 
 // The blocks of the input at each multiple of the stride, the last of them padded, and flagged where it finalizes. The one call of
@@ -50,31 +41,26 @@ pub fn compress1_loop(
     ensures { result.words ≡ through_blocks BLAKE2b (padded_blockbytes stride) words count (finalizes finalize) (finalizes finalize && is_last_node last_node) input.now }
 {
     let row = padded_blockbytes(stride);
-    let mut buf = zero_block();
+    let mut buf = zeroed::<BLOCKBYTES>();
     pad_final_block(input, final_offset(input.len(), row), &mut buf);
     let padded = buf;
     let fin_last_block = finalize.yes();
-    let fin_last_node = both(fin_last_block, last_node.yes());
+    let fin_last_node = fin_last_block && last_node.yes();
     let mut local_words = words;
     let mut local_count = count;
-    let mut offset: usize = 0;
-    loop {
+    // No bytes are one empty block.
+    let end = input.len().max(1);
+    for offset in (0..end).step_by(row) {
         let facts = final_facts(input, offset, BLOCKBYTES, row);
         let last = facts.may_finalize;
         local_count += facts.len as u64;
-        let block = final_block(input, offset, &padded);
-        let next = compress_block(
-            block,
+        local_words = compress_block(
+            final_block(input, offset, &padded),
             local_words,
-            count_low(local_count),
-            count_high(local_count),
-            both(last, fin_last_block),
-            both(last, fin_last_node),
+            u128::from(local_count),
+            last && fin_last_block,
+            last && fin_last_node,
         );
-        local_words = next;
-        if last {
-            return Compressed { words: local_words };
-        }
-        offset += row;
     }
+    Compressed { words: local_words }
 }

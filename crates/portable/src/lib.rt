@@ -7,5 +7,5 @@ mod parameters;
 mod widths;
 
 pub use blocks::{Compressed, compress1_loop};
-pub use parameters::parameter_words;
-pub use widths::{BLOCKBYTES, padded_block, zero_block};
+pub use parameters::ParameterBlock;
+pub use widths::BLOCKBYTES;

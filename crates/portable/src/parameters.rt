@@ -3,51 +3,45 @@
 ghost use Rattle.std.specs.Prelude.{◌≡◌};
 ghost use Rattle.definitions.specs.Family.{BLAKE2b};
 ghost use Rattle.definitions.specs.Hash.{start};
+ghost use Rattle.portable.specs.Nodes.{parameters_of};
 
 use compression::IV;
 use words::read_word;
 
-// The words of a node of any tree. The salt and the personalization are 16 bytes each.
-pub fn parameter_words(
-    digest_length: u8,
-    key_length: u8,
-    fanout: u8,
-    depth: u8,
-    leaf_length: u32,
-    node_offset: u64,
-    node_depth: u8,
-    inner_length: u8,
-    salt: [u8; 16],
-    personal: [u8; 16],
-) -> [u64; 8]
-    ensures { result ≡ start BLAKE2b (record {
-      digest_length = digest_length;
-      key_length = key_length;
-      fanout = fanout;
-      depth = depth;
-      leaf_length = leaf_length;
-      node_offset = node_offset;
-      node_depth = node_depth;
-      inner_length = inner_length;
-      salt = salt;
-      personal = personal;
-    }) }
-{
-    let lengths = digest_length as u64
-        + key_length as u64 * 0x100
-        + fanout as u64 * 0x1_0000
-        + depth as u64 * 0x100_0000
-        + leaf_length as u64 * 0x1_0000_0000;
-    let node = node_depth as u64 + inner_length as u64 * 0x100;
-    let iv = IV;
-    [
-        lengths ^ iv[0],
-        node_offset ^ iv[1],
-        node ^ iv[2],
-        iv[3],
-        read_word(&salt, 0) ^ iv[4],
-        read_word(&salt, 8) ^ iv[5],
-        read_word(&personal, 0) ^ iv[6],
-        read_word(&personal, 8) ^ iv[7],
-    ]
+// What a node of any tree is told.
+#[derive(Clone, Copy)]
+pub struct ParameterBlock {
+    pub digest_length: u8,
+    pub key_length: u8,
+    pub fanout: u8,
+    pub depth: u8,
+    pub leaf_length: u32,
+    pub node_offset: u64,
+    pub node_depth: u8,
+    pub inner_length: u8,
+    pub salt: [u8; 16],
+    pub personal: [u8; 16],
+}
+
+impl ParameterBlock {
+    pub fn words(self) -> [u64; 8]
+        ensures { result ≡ start BLAKE2b (parameters_of self) }
+    {
+        let lengths = u64::from(self.digest_length)
+            + u64::from(self.key_length) * 0x100
+            + u64::from(self.fanout) * 0x1_0000
+            + u64::from(self.depth) * 0x100_0000
+            + u64::from(self.leaf_length) * 0x1_0000_0000;
+        let node = u64::from(self.node_depth) + u64::from(self.inner_length) * 0x100;
+        [
+            lengths ^ IV[0],
+            self.node_offset ^ IV[1],
+            node ^ IV[2],
+            IV[3],
+            read_word(&self.salt, 0) ^ IV[4],
+            read_word(&self.salt, 8) ^ IV[5],
+            read_word(&self.personal, 0) ^ IV[6],
+            read_word(&self.personal, 8) ^ IV[7],
+        ]
+    }
 }

@@ -1,2 +1,4 @@
 pub mod Numbers
 pub mod Tests
+pub mod Answers
+pub mod Texts

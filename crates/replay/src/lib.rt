@@ -2,13 +2,16 @@
 
 // The interpreter of a script's calls on BLAKE2b's parameters, states and digests.
 // Test code: safe by proof, with no promise of its own. docs/REPLAY.md has the format.
-mod records;
-mod script;
+mod call;
+mod digest;
+mod params;
 mod session;
 mod shown;
-mod table;
+mod state;
 
-pub use script::run;
+pub use call::Call;
+pub use digest::DigestCall;
+pub use params::ParamsCall;
 pub use session::Session;
-pub use shown::{answer_of_count, answer_of_digest, answer_of_yes};
-pub use table::read;
+pub use shown::{digest_shown, record_kept, value_shown, written_shown};
+pub use state::StateCall;

@@ -1,94 +1,60 @@
-// The calls of a script that hand back no record, and leave all records as they are.
-// An output that a call writes to is filled beforehand, so that untouched bytes are seen.
-use crate::table;
-use blake2b::{CountAnswer, EqualAnswer, Hash, HashAnswer, LengthAnswer, Params, State};
-use hash::is_digest_length;
-use replay_text::{
-    Answer, COUNT, EQUAL, LENGTH, ROOM, answer_of, answer_of_bytes, front, part, put,
-};
-use words::write_words;
+// What a call is answered: the number of its refusal, or 0, and what is shown of what it hands back: zeros where it refused.
+// The bytes of a digest and what else is shown by length and bytes are written to a lent room.
+ghost use Rattle.std.specs.Prelude.{◌≤◌, length};
 
-// A digest, or the refusal in its place.
-pub fn answer_of_digest(answer: HashAnswer) -> Answer {
-    let mut bytes = [0u8; ROOM];
-    let hash = answer.hash;
-    let length = hash.write_bytes(&mut bytes).length;
-    answer_of_bytes(answer.number, length, bytes, length)
-}
+use blake2b::Hash;
+use refusals::{Refusal, number_in};
+use replay_text::{Answer, ROOM, Shown};
 
-pub fn answer_of_count(answer: CountAnswer) -> Answer {
-    answer_of(answer.number, COUNT, answer.count)
-}
-
-// Yes or no, shown as a comparison is.
-pub fn answer_of_yes(yes: bool) -> Answer {
-    answer_of(0, EQUAL, yes as u64)
-}
-
-fn answer_of_length(answer: LengthAnswer) -> Answer {
-    answer_of(answer.number, LENGTH, answer.length as u64)
-}
-
-fn answer_of_equal(answer: EqualAnswer) -> Answer {
-    answer_of(answer.number, EQUAL, answer.equal as u64)
-}
-
-fn answer_of_all(bytes: &[u8]) -> Answer {
-    let mut all = [0u8; ROOM];
-    let length = put(&mut all, 0, bytes);
-    answer_of_bytes(0, length, all, length)
-}
-
-fn write(hash: Hash, row: usize, output: &mut [u8]) -> LengthAnswer {
-    match row {
-        table::DIGEST_WRITE_BYTES | table::DIGEST_WRITTEN_BYTES => hash.write_bytes(output),
-        _ => hash.write_hex(output),
+pub fn value_shown<'r, T: Copy + Default, F: FnOnce(T) -> Shown<'r>>(
+    answer: Result<T, Refusal>,
+    show: F,
+) -> Answer<'r>
+    requires { F.IsAlwaysCallable show }
+{
+    Answer {
+        number: number_in(&answer),
+        shown: show(answer.unwrap_or_default()),
     }
 }
 
-// What is shown of an output: all of it, or the part that a call hands back as written.
-fn seen<'a>(hash: Hash, row: usize, output: &'a [u8]) -> &'a [u8] {
-    match row {
-        table::DIGEST_WRITTEN_BYTES => hash.written_bytes(output),
-        table::DIGEST_WRITTEN_HEX => hash.written_hex(output),
-        _ => output,
+// What a call wrote, and its output or a part of it.
+pub fn written_shown<'r>(answer: Result<usize, Refusal>, bytes: &'r [u8]) -> Answer<'r> {
+    value_shown(answer, |length| Shown::Bytes { length, bytes })
+}
+
+// A record that becomes the current one. Where the call refused, `left` does.
+pub fn record_kept<T: Copy>(
+    current: &mut T,
+    answer: Result<T, Refusal>,
+    left: T,
+) -> Answer<'static> {
+    *current = answer.unwrap_or(left);
+    Answer {
+        number: number_in(&answer),
+        shown: Shown::Nothing,
     }
 }
 
-fn written(hash: Hash, row: usize, room: usize) -> Answer {
-    let mut output = [0xA5u8; ROOM];
-    let answer = write(hash, row, front(&mut output, room));
-    let mut bytes = [0u8; ROOM];
-    let shown = put(&mut bytes, 0, seen(hash, row, part(&output, 0, room)));
-    answer_of_bytes(answer.number, answer.length, bytes, shown)
-}
-
-pub fn tell_of_params(params: Params, row: usize) -> Answer {
-    match row {
-        table::PARAMS_IN_RANGE => answer_of_yes(params.in_range()),
-        table::PARAMS_IS_KEYED => answer_of_yes(params.is_keyed()),
-        table::PARAMS_IS_LAST_NODE => answer_of_yes(params.is_last_node()),
-        table::PARAMS_DIGEST_LENGTH => answer_of(0, LENGTH, params.digest_length() as u64),
-        table::PARAMS_KEY_BLOCK => answer_of_all(&params.key_block()),
-        _ => answer_of_all(&write_words(params.to_words())),
+pub fn digest_shown<'r>(answer: Result<Hash, Refusal>, room: &'r mut [u8; ROOM]) -> Answer<'r> {
+    let hash = answer.unwrap_or(Hash::zero());
+    let length = hash.write_bytes(room).unwrap_or(0);
+    let bytes = hash.written_bytes(room);
+    Answer {
+        number: number_in(&answer),
+        shown: Shown::Bytes { length, bytes },
     }
 }
 
-pub fn tell_of_state(state: State, row: usize) -> Answer {
-    match row {
-        table::STATE_COUNT => answer_of_count(state.count()),
-        _ => answer_of_yes(state.in_range()),
-    }
-}
-
-// Of the last digest, and the one that was kept.
-pub fn tell_of_digest(last: Hash, kept: Hash, row: usize, n: u64, message: &[u8]) -> Answer {
-    match row {
-        table::DIGEST_LEN => answer_of_length(last.len()),
-        table::DIGEST_EQUALS => answer_of_equal(last.equals(kept)),
-        table::DIGEST_EQUALS_BYTES => answer_of_equal(last.equals_bytes(message)),
-        table::DIGEST_IN_RANGE => answer_of_yes(last.in_range()),
-        table::DIGEST_IS_DIGEST_LENGTH => answer_of_yes(is_digest_length(n as usize)),
-        _ => written(last, row, n as usize),
-    }
+// Bytes that are no digest.
+pub(crate) fn bytes_shown<'r>(bytes: &[u8], room: &'r mut [u8; ROOM]) -> Answer<'r>
+    requires { length bytes.now ≤ ROOM }
+{
+    let length = bytes.len();
+    let shown = &mut room[..length];
+    shown.copy_from_slice(bytes);
+    Answer::accepted(Shown::Bytes {
+        length,
+        bytes: shown,
+    })
 }

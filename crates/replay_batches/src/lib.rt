@@ -2,11 +2,10 @@
 
 // The interpreter of a script's calls on hash jobs and a bank.
 // Test code: safe by proof, with no promise of its own. docs/REPLAY.md has the format.
-mod banks;
-mod script;
+mod call;
+mod place;
 mod session;
-mod table;
 
-pub use script::run;
+pub use call::{BankCall, Call, JobCall};
+pub use place::Place;
 pub use session::Session;
-pub use table::read;

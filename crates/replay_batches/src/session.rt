@@ -1,10 +1,14 @@
-// What a script has at hand between two lines for its calls on jobs and a bank, and what the last call answered.
-// The record that a call hands back becomes the current one, also where it refused, and so does a refused batch.
-ghost use Rattle.std.specs.Prelude.{◌<◌};
-
-use bank::{Bank, BankAnswer, BatchAnswer, MOST_RECORDS, Piece};
-use many::{HashManyJob, JobAnswer, JobsAnswer, MOST_JOBS};
-use replay_text::{Answer, INDEX, PLAIN, answer_of};
+// What a script has at hand between two lines for its calls on jobs and a bank, and the calls on it, with the current parameters.
+// The record that a call hands back becomes the current one; where it refused, what a refusal leaves does.
+use crate::call::{BankCall, Call, JobCall};
+use bank::{Bank, MOST_RECORDS, Piece};
+use bank_lent::update_many_of_array;
+use blake2b::Params;
+use many::{HashManyJob, MOST_JOBS, hash_many};
+use many_held::hash_through_job;
+use refusals::BatchRefusal;
+use replay::{digest_shown, record_kept, value_shown, written_shown};
+use replay_text::{Answer, ROOM, Shown};
 
 #[derive(Clone, Copy)]
 pub struct Session {
@@ -12,90 +16,114 @@ pub struct Session {
     pub(crate) bank: Bank,
     // The records of the next batch.
     pub(crate) pieces: [Piece; MOST_RECORDS],
-    pub answer: Answer,
 }
 
-// The place of a job or a record: all of a number that was read as at most 15.
-fn place(n: u64) -> usize
-    ensures { result < 16 }
-{
-    (n % 16) as usize
+// A batch's records, which become the current ones. A refused batch leaves those it was over.
+fn batch_kept<T: Copy>(current: &mut T, answer: Result<T, BatchRefusal>) -> Answer<'static> {
+    match answer {
+        Ok(records) => {
+            *current = records;
+            Answer::accepted(Shown::Index(0))
+        }
+        Err(BatchRefusal { refusal, index }) => Answer {
+            number: refusal.number(),
+            shown: Shown::Index(index),
+        },
+    }
+}
+
+// The output is filled beforehand, so that untouched bytes are seen.
+fn digest_to<'r>(bank: Bank, slot: usize, length: usize, room: &'r mut [u8; ROOM]) -> Answer<'r> {
+    room.fill(0xA5);
+    let output = room.get_mut(..length).unwrap_or_default();
+    written_shown(bank.digest_to(slot, output), output)
 }
 
 impl Session {
     pub fn new() -> Self {
-        let job = HashManyJob::zero();
-        let bank = Bank::new();
         let piece = Piece {
             slot: 0,
             start: 0,
             length: 0,
         };
-        let answer = answer_of(0, PLAIN, 0);
         Session {
-            jobs: [job; MOST_JOBS],
-            bank,
+            jobs: [HashManyJob::zero(); MOST_JOBS],
+            bank: Bank::new(),
             pieces: [piece; MOST_RECORDS],
-            answer,
         }
     }
 
-    pub(crate) fn job(self, n: u64) -> HashManyJob {
+    // The bytes that the answer shows are written to the room.
+    pub fn run<'r>(
+        &mut self,
+        params: Params,
+        call: Call<'_>,
+        room: &'r mut [u8; ROOM],
+    ) -> Answer<'r> {
+        match call {
+            Call::Job(call) => self.on_job(params, call, room),
+            Call::Bank(call) => self.on_bank(params, call, room),
+        }
+    }
+
+    fn on_job<'r>(
+        &mut self,
+        params: Params,
+        call: JobCall<'_>,
+        room: &'r mut [u8; ROOM],
+    ) -> Answer<'r> {
         let jobs = self.jobs;
-        jobs[place(n)]
+        match call {
+            JobCall::New {
+                place,
+                start,
+                length,
+                bytes,
+            } => {
+                let answer = HashManyJob::new(params, bytes, start, length);
+                record_kept(&mut self.jobs[place.index], answer, HashManyJob::zero())
+            }
+            JobCall::Run { used, bytes } => batch_kept(
+                &mut self.jobs,
+                hash_many(jobs, used, bytes),
+            ),
+            JobCall::Hash(place) => digest_shown(jobs[place.index].to_hash(), room),
+            JobCall::Held(bytes) => digest_shown(hash_through_job(params, bytes), room),
+        }
     }
 
-    pub(crate) fn with_job(self, n: u64, answer: JobAnswer) -> Self {
-        let job = answer.job;
-        let mut jobs = self.jobs;
-        jobs[place(n)] = job;
-        let shown = answer_of(answer.number, PLAIN, 0);
-        let mut s = self;
-        s.jobs = jobs;
-        s.answer = shown;
-        s
-    }
-
-    pub(crate) fn with_jobs(self, answer: JobsAnswer) -> Self {
-        let jobs = answer.jobs;
-        let shown = answer_of(answer.number, INDEX, answer.index as u64);
-        let mut s = self;
-        s.jobs = jobs;
-        s.answer = shown;
-        s
-    }
-
-    pub(crate) fn with_piece(self, n: u64, piece: Piece) -> Self {
-        let mut pieces = self.pieces;
-        pieces[place(n)] = piece;
-        let shown = answer_of(0, PLAIN, 0);
-        let mut s = self;
-        s.pieces = pieces;
-        s.answer = shown;
-        s
-    }
-
-    pub(crate) fn with_bank(self, answer: BankAnswer) -> Self {
-        let bank = answer.bank;
-        let shown = answer_of(answer.number, PLAIN, 0);
-        let mut s = self;
-        s.bank = bank;
-        s.answer = shown;
-        s
-    }
-
-    pub(crate) fn with_batch(self, answer: BatchAnswer) -> Self {
-        let bank = answer.bank;
-        let shown = answer_of(answer.number, INDEX, answer.index as u64);
-        let mut s = self;
-        s.bank = bank;
-        s.answer = shown;
-        s
-    }
-
-    pub(crate) fn with_answer(self, answer: Answer) -> Self {
-        let mut s = self;
-        s.answer = answer;
-        s
+    fn on_bank<'r>(
+        &mut self,
+        params: Params,
+        call: BankCall<'_>,
+        room: &'r mut [u8; ROOM],
+    ) -> Answer<'r> {
+        let bank = self.bank;
+        match call {
+            BankCall::New => record_kept(&mut self.bank, Ok(Bank::new()), bank),
+            BankCall::Open(slot) => record_kept(&mut self.bank, bank.open(slot, params), bank),
+            BankCall::Update { slot, message } => record_kept(
+                &mut self.bank,
+                bank.update(slot, message),
+                bank,
+            ),
+            BankCall::Close(slot) => record_kept(&mut self.bank, bank.close(slot), bank),
+            BankCall::Piece(place, piece) => {
+                self.pieces[place.index] = piece;
+                Answer::accepted(Shown::Nothing)
+            }
+            BankCall::UpdateMany { used, bytes } => {
+                batch_kept(&mut self.bank, bank.update_many(self.pieces, used, bytes))
+            }
+            BankCall::UpdateLent { used, bytes } => {
+                batch_kept(
+                    &mut self.bank,
+                    update_many_of_array(bank, self.pieces, used, bytes),
+                )
+            }
+            BankCall::Digest(slot) => digest_shown(bank.digest(slot), room),
+            BankCall::DigestTo { slot, length } => digest_to(bank, slot, length, room),
+            BankCall::Count(slot) => value_shown(bank.count(slot), Shown::Count),
+        }
     }
 }

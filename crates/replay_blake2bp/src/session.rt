@@ -1,48 +1,67 @@
-// What a script has at hand between two lines for its calls on BLAKE2bp, and what the last call answered.
-// The record that a call hands back becomes the current one, also where it refused.
-use blake2bp::{Params, ParamsAnswer, State, StateAnswer};
-use replay_text::{Answer, PLAIN, answer_of};
+// What a script has at hand between two lines for its calls on BLAKE2bp, and the calls on it.
+// The record that a call hands back becomes the current one; where it refused, what a refusal leaves does.
+use crate::call::{Call, ParamsCall, StateCall};
+use blake2bp::{Params, State, blake2bp};
+use replay::{digest_shown, record_kept, value_shown};
+use replay_text::{Answer, ROOM, Shown};
 
 #[derive(Clone, Copy)]
 pub struct Session {
     pub(crate) params: Params,
     pub(crate) state: State,
-    pub answer: Answer,
 }
 
 impl Session {
     pub fn new() -> Self {
-        let params = Params::new();
-        let state = State::new();
-        let answer = answer_of(0, PLAIN, 0);
         Session {
-            params,
-            state,
-            answer,
+            params: Params::new(),
+            state: State::new(),
         }
     }
 
-    pub(crate) fn with_params(self, answer: ParamsAnswer) -> Self {
-        let params = answer.params;
-        let shown = answer_of(answer.number, PLAIN, 0);
-        let mut s = self;
-        s.params = params;
-        s.answer = shown;
-        s
+    // The bytes that the answer shows are written to the room.
+    pub fn run<'r>(&mut self, call: Call<'_>, room: &'r mut [u8; ROOM]) -> Answer<'r> {
+        match call {
+            Call::Params(call) => self.on_params(call),
+            Call::State(call) => self.on_state(call, room),
+            Call::Hash(message) => digest_shown(self.params.hash(message), room),
+            Call::Blake2bp(message) => digest_shown(Ok(blake2bp(message)), room),
+        }
     }
 
-    pub(crate) fn with_state(self, answer: StateAnswer) -> Self {
-        let state = answer.state;
-        let shown = answer_of(answer.number, PLAIN, 0);
-        let mut s = self;
-        s.state = state;
-        s.answer = shown;
-        s
+    fn on_params(&mut self, call: ParamsCall<'_>) -> Answer<'static> {
+        let params = self.params;
+        match call {
+            ParamsCall::New => record_kept(&mut self.params, Ok(Params::new()), params),
+            ParamsCall::HashLength(length) => record_kept(
+                &mut self.params,
+                params.hash_length(length),
+                params,
+            ),
+            ParamsCall::Key(key) => record_kept(&mut self.params, params.key(key), params),
+            ParamsCall::InRange => Answer::accepted(Shown::Equal(params.in_range())),
+        }
     }
 
-    pub(crate) fn with_answer(self, answer: Answer) -> Self {
-        let mut s = self;
-        s.answer = answer;
-        s
+    fn on_state<'r>(&mut self, call: StateCall<'_>, room: &'r mut [u8; ROOM]) -> Answer<'r> {
+        let state = self.state;
+        match call {
+            StateCall::New => record_kept(&mut self.state, Ok(State::new()), state),
+            StateCall::Zero => record_kept(&mut self.state, Ok(State::zero()), state),
+            StateCall::Open => record_kept(&mut self.state, self.params.to_state(), State::zero()),
+            StateCall::Update(message) => record_kept(
+                &mut self.state,
+                state.update(message),
+                state,
+            ),
+            StateCall::Finalize => digest_shown(state.finalize(), room),
+            StateCall::Count => value_shown(state.count().map(|count| count.0), Shown::Count),
+            StateCall::LeafCount => value_shown(
+                state.leaf_count().map(|count| count.0),
+                Shown::Count,
+            ),
+            StateCall::Buffered => value_shown(state.buffered(), Shown::Length),
+            StateCall::InRange => Answer::accepted(Shown::Equal(state.in_range())),
+        }
     }
 }

@@ -1,88 +1,67 @@
-// What a line of a script is answered: a call's number, a field and bytes, or what is wrong with the line.
-// Each kind of answer has a mark, by which its text is found: N, V and B stand in it for the number, the value and the bytes.
-use crate::output::{part, push, put_decimal, put_hex};
-use crate::text::{after, before};
+// What a call is answered, and its text.
+ghost use Rattle.std.specs.Prelude.{◌≡◌};
+
+use std::fmt;
 
 // The most bytes that an answer shows.
 pub const ROOM: usize = 1024;
 
-// No answer: to an empty line and to a comment.
-pub const NOTHING: u8 = b'0';
-
-// What is wrong with a line.
-pub const COMMAND: u8 = b'1';
-
-pub const NUMBER: u8 = b'2';
-
-pub const MESSAGE: u8 = b'3';
-
-pub const LINE: u8 = b'4';
-
-// A number, and what is behind it.
-pub const PLAIN: u8 = b'5';
-
-pub const INDEX: u8 = b'6';
-
-pub const COUNT: u8 = b'7';
-
-pub const LENGTH: u8 = b'8';
-
-pub const EQUAL: u8 = b'9';
-
-const BYTES: u8 = b'A';
-
-#[derive(Clone, Copy)]
-pub struct Answer {
-    kind: u8,
-    number: u8,
-    value: u64,
-    bytes: [u8; ROOM],
-    shown: usize,
+// A call's number, and what is shown behind it. The bytes lie in a lent buffer.
+#[derive(Clone, Copy, Debug, PartialEq, Eq)]
+pub struct Answer<'a> {
+    pub number: u8,
+    pub shown: Shown<'a>,
 }
 
-pub fn answer_of(number: u8, kind: u8, value: u64) -> Answer {
-    Answer {
-        kind,
-        number,
-        value,
-        bytes: [0; ROOM],
-        shown: 0,
+impl<'a> Answer<'a> {
+    // Of a call that can't refuse.
+    pub fn accepted(shown: Shown<'a>) -> Self
+        ensures { result ≡ record { number = 0; shown = shown.entry } }
+    {
+        Answer { number: 0, shown }
     }
 }
 
-// The number, a length, and the first so many of the bytes.
-pub fn answer_of_bytes(number: u8, length: usize, bytes: [u8; ROOM], shown: usize) -> Answer {
-    Answer {
-        kind: BYTES,
-        number,
-        value: length as u64,
-        bytes,
-        shown,
+#[derive(Clone, Copy, Debug, PartialEq, Eq)]
+pub enum Shown<'a> {
+    Nothing,
+    Index(usize),
+    Count(u64),
+    Length(usize),
+    Equal(bool),
+    Bytes { length: usize, bytes: &'a [u8] },
+}
+
+impl fmt::Display for Answer<'_> {
+    fn fmt<W: fmt::Write>(&self, f: &mut fmt::Formatter<W>) -> fmt::Result {
+        write!(f, "number={}{}", self.number, self.shown)
     }
 }
 
-// A byte of the answer's text, or what it stands for.
-fn put_byte(out: &mut [u8], at: usize, byte: u8, answer: Answer) -> usize {
-    match byte {
-        b'N' => put_decimal(out, at, answer.number as u64),
-        b'V' => put_decimal(out, at, answer.value),
-        b'B' => {
-            let bytes = answer.bytes;
-            put_hex(out, at, part(&bytes, 0, answer.shown))
+impl fmt::Display for Shown<'_> {
+    fn fmt<W: fmt::Write>(&self, f: &mut fmt::Formatter<W>) -> fmt::Result {
+        match self {
+            Shown::Nothing => Ok(()),
+            Shown::Index(index) => write!(f, " index={index}"),
+            Shown::Count(count) => write!(f, " count={count}"),
+            Shown::Length(length) => write!(f, " length={length}"),
+            Shown::Equal(equal) => write!(f, " equal={}", u8::from(*equal)),
+            Shown::Bytes { length, bytes } => {
+                write!(f, " length={length} bytes={}", Hexadecimal(bytes))
+            }
         }
-        _ => push(out, at, byte),
     }
 }
 
-// The line that says the answer, with its line feed.
-pub fn put_answer(out: &mut [u8], answer: Answer) -> usize {
-    let texts = b"1malformed command\n;2malformed number\n;3malformed message\n;4malformed line\n;\
-                  5number=N\n;6number=N index=V\n;7number=N count=V\n;8number=N length=V\n;\
-                  9number=N equal=V\n;Anumber=N length=V bytes=B\n;";
-    let text = before(after(texts, answer.kind), b';');
-    let mut at: usize = 0;
-    for byte in text {
-        at = put_byte(out, at, *byte, answer);
+// Bytes, each as two lower-case digits.
+#[derive(Clone, Copy)]
+struct Hexadecimal<'a>(&'a [u8]);
+
+impl fmt::Display for Hexadecimal<'_> {
+    fn fmt<W: fmt::Write>(&self, f: &mut fmt::Formatter<W>) -> fmt::Result {
+        for byte in self.0 {
+            write!(f, "{byte:02x}")?;
+        }
+        Ok(())
     }
-    at
 }

@@ -1,152 +1,66 @@
 // A message as a script writes it: its bytes in hexadecimal, counted up, or generated; all of them or a part.
 // The bytes go to the front of a lent space, which is as long as the longest message.
-use crate::output::{part, push};
-use crate::text::{Number, after, before, low8, read_number};
+ghost use Rattle.std.specs.Prelude.{◌≤◌, IfSome};
 
-// Where in the space the message lies.
-#[derive(Clone, Copy)]
-pub enum Message {
-    From(usize, usize),
-    Malformed,
+use crate::text::{read_number, split_once};
+use hex::decode_to_slice;
+
+// DIGITS. No line has so many that they wouldn't fit the space.
+fn decoded<'a>(digits: &[u8], space: &'a mut [u8]) -> Option<&'a [u8]> {
+    let message = space.get_mut(..digits.len() / 2)?;
+    decode_to_slice(digits, message).ok()?;
+    Some(message)
 }
 
-// How a message is written: the letter in front of its first colon.
-const HEXADECIMAL: u8 = b'x';
-
-const COUNTED: u8 = b'c';
-
-const GENERATED: u8 = b'g';
-
-const NONE: u8 = 0;
-
-// The value of a hexadecimal digit, or 16.
-fn digit_value(digit: u8) -> u8 {
-    match digit {
-        b'0'..=b'9' => digit - b'0',
-        b'a'..=b'f' => digit - 87,
-        b'A'..=b'F' => digit - 55,
-        _ => 16,
-    }
+// LENGTH:START or LENGTH:SEED, of which the second is at most `most`: the message's place, and the second.
+fn sized<'a>(text: &[u8], most: u64, space: &'a mut [u8]) -> Option<(&'a mut [u8], u64)>
+    ensures { IfSome result (λ sized. sized.1 ≤ most) }
+{
+    let (length, first) = split_once(text, b':');
+    let message = space.get_mut(..read_number(length, u64::MAX)? as usize)?;
+    Some((message, read_number(first?, most)?))
 }
 
-// The byte of the two digits from a place on: 0 where there are none.
-fn byte_of(digits: &[u8], place: u64) -> u8 {
-    let at = (place % 0x8000_0000) as usize;
-    if at + 1 < digits.len() {
-        return digit_value(digits[at]) % 16 * 16 + digit_value(digits[at + 1]) % 16;
+fn counted<'a>(text: &[u8], space: &'a mut [u8]) -> Option<&'a [u8]> {
+    let (message, start) = sized(text, 255, space)?;
+    let mut next = start as u8;
+    for byte in message.iter_mut() {
+        *byte = next;
+        next = next.wrapping_add(1);
     }
-    0
+    Some(message)
 }
 
 // The generator of C's rand in many of its first libraries.
-fn generated(x: u64) -> u64 {
-    (x % 0x8000_0000 * 1103515245 + 12345) % 0x8000_0000
+fn generated<'a>(text: &[u8], space: &'a mut [u8]) -> Option<&'a [u8]> {
+    let (message, seed) = sized(text, 0x7FFF_FFFF, space)?;
+    let mut x = seed as u32;
+    for byte in message.iter_mut() {
+        x = x.wrapping_mul(1103515245).wrapping_add(12345) % 0x8000_0000;
+        *byte = (x / 65536 % 256) as u8;
+    }
+    Some(message)
 }
 
-// The byte that is made of the number x: the place of its digits, itself, or what the generator was at before it.
-fn byte_at(kind: u8, x: u64, digits: &[u8]) -> u8 {
-    match kind {
-        HEXADECIMAL => byte_of(digits, x),
-        COUNTED => low8(x),
-        _ => low8(generated(x) / 65536),
-    }
+// FROM:TO]
+fn cut<'a>(text: &[u8], message: &'a [u8]) -> Option<&'a [u8]> {
+    let (from, to) = split_once(text.strip_suffix(b"]")?, b':');
+    let from = read_number(from, u64::MAX)? as usize;
+    let to = read_number(to?, u64::MAX)? as usize;
+    message.get(from..to)
 }
 
-// The number for the byte behind it.
-fn next(kind: u8, x: u64) -> u64 {
-    match kind {
-        HEXADECIMAL => x % 0x8000_0000 + 2,
-        COUNTED => x % 256 + 1,
-        _ => generated(x),
-    }
-}
-
-// A message of `length` bytes, from the number for the first one, to the front of the space.
-fn make(kind: u8, first: u64, length: usize, digits: &[u8], space: &mut [u8]) {
-    let mut x = first;
-    for i in 0..length {
-        push(space, i, byte_at(kind, x, digits));
-        x = next(kind, x);
-    }
-}
-
-fn kind_of(text: &[u8]) -> u8 {
-    if text.len() < 2 || text[1] != b':' {
-        return NONE;
-    }
-    text[0]
-}
-
-// The number of bytes that digits write. No line has so many that they wouldn't fit the space.
-fn length_of_digits(digits: &[u8]) -> Number {
-    for digit in digits {
-        if digit_value(*digit) > 15 {
-            return Number::Malformed;
-        }
-    }
-    let n = digits.len();
-    if n % 2 == 0 {
-        return Number::Value((n / 2) as u64);
-    }
-    Number::Malformed
-}
-
-// The message's length, which is at most `most`.
-fn length_of(kind: u8, text: &[u8], most: u64) -> Number {
-    match kind {
-        HEXADECIMAL => length_of_digits(text),
-        COUNTED | GENERATED => read_number(before(text, b':'), most),
-        _ => Number::Malformed,
-    }
-}
-
-// The number for the first byte.
-fn first_of(kind: u8, text: &[u8]) -> Number {
-    match kind {
-        HEXADECIMAL => Number::Value(0),
-        COUNTED => read_number(after(text, b':'), 255),
-        _ => read_number(after(text, b':'), 0x7FFF_FFFF),
-    }
-}
-
-// x:DIGITS, c:LENGTH:START or g:LENGTH:SEED
-fn read_whole(text: &[u8], space: &mut [u8]) -> Message {
-    let kind = kind_of(text);
-    let rest = part(text, 2, text.len());
-    let Number::Value(n) = length_of(kind, rest, space.len() as u64) else {
-        return Message::Malformed;
+// x:DIGITS, c:LENGTH:START or g:LENGTH:SEED, and behind it [FROM:TO] or nothing.
+pub fn read_message<'a>(text: &[u8], space: &'a mut [u8]) -> Option<&'a [u8]> {
+    let (whole, part) = split_once(text, b'[');
+    let message = match whole {
+        [b'x', b':', digits @ ..] => decoded(digits, space)?,
+        [b'c', b':', rest @ ..] => counted(rest, space)?,
+        [b'g', b':', rest @ ..] => generated(rest, space)?,
+        _ => return None,
     };
-    let Number::Value(first) = first_of(kind, rest) else {
-        return Message::Malformed;
-    };
-    let length = n as usize;
-    make(kind, first, length, rest, space);
-    Message::From(0, length)
-}
-
-// FROM:TO], of a message of so many bytes.
-fn cut(text: &[u8], length: usize) -> Message {
-    let inside = before(text, b']');
-    if inside.len() + 1 != text.len() {
-        return Message::Malformed;
+    match part {
+        Some(part) => cut(part, message),
+        None => Some(message),
     }
-    let Number::Value(to) = read_number(after(inside, b':'), length as u64) else {
-        return Message::Malformed;
-    };
-    let Number::Value(from) = read_number(before(inside, b':'), to) else {
-        return Message::Malformed;
-    };
-    Message::From(from as usize, to as usize)
-}
-
-pub fn read_message(text: &[u8], space: &mut [u8]) -> Message {
-    let body = before(text, b'[');
-    let whole = read_whole(body, space);
-    if body.len() == text.len() {
-        return whole;
-    }
-    let Message::From(_, length) = whole else {
-        return Message::Malformed;
-    };
-    cut(after(text, b'['), length)
 }

@@ -1,15 +1,6 @@
-// The words and the numbers of a line.
+// Parts of a line, and numbers.
 // A mark is a byte between two parts: a space, a colon, a bracket.
-ghost use Rattle.std.specs.Prelude.{◌≡◌, ◌≢◌, ℕ, ◌<◌, ◌≤◌, length, slice_index};
-
-use crate::output::part;
-
-// A number that was read.
-#[derive(Clone, Copy)]
-pub enum Number {
-    Value(u64),
-    Malformed,
-}
+ghost use Rattle.std.specs.Prelude.{◌≡◌, ◌≢◌, ℕ, ◌<◌, ◌≤◌, length, slice_index, IfSome};
 
 // Where the first mark is: the text's length where there is none.
 pub fn find(text: &[u8], mark: u8) -> usize
@@ -22,56 +13,22 @@ pub fn find(text: &[u8], mark: u8) -> usize
         .unwrap_or(text.len())
 }
 
-// The text in front of the first mark: all of it where there is none.
-pub fn before<'a>(text: &'a [u8], mark: u8) -> &'a [u8] {
-    part(text, 0, find(text, mark))
-}
-
-// The text behind the first mark: nothing where there is none.
-pub fn after<'a>(text: &'a [u8], mark: u8) -> &'a [u8] {
+// The text in front of the first mark and the text behind it: all of it and none where there is no mark.
+pub fn split_once(text: &[u8], mark: u8) -> (&[u8], Option<&[u8]>) {
     let at = find(text, mark);
-    part(text, at + 1, text.len())
+    (&text[..at], text.get(at + 1..))
 }
 
-// The number that the value becomes with one more decimal digit.
-fn with_digit(value: u64, digit: u8) -> Number {
-    if digit < b'0' {
-        return Number::Malformed;
+// An unsigned decimal number of at most `most`. Where digits alone stand, `parse` reads no sign.
+pub fn read_number(text: &[u8], most: u64) -> Option<u64>
+    ensures { IfSome result (λ n. n ≤ most) }
+{
+    if !text.iter().all(|byte| byte.is_ascii_digit()) {
+        return None;
     }
-    if digit > b'9' {
-        return Number::Malformed;
+    let number = str::from_utf8(text).ok()?.parse::<u64>().ok()?;
+    if number > most {
+        return None;
     }
-    let ones = (digit - b'0') as u64;
-    if value > (u64::MAX - ones) / 10 {
-        return Number::Malformed;
-    }
-    Number::Value(value * 10 + ones)
-}
-
-// An unsigned decimal number of at most `most`.
-pub fn read_number(text: &[u8], most: u64) -> Number {
-    if text.len() == 0 {
-        return Number::Malformed;
-    }
-    let mut value: u64 = 0;
-    for digit in text {
-        let Number::Value(next) = with_digit(value, *digit) else {
-            return Number::Malformed;
-        };
-        value = next;
-    }
-    if value > most {
-        return Number::Malformed;
-    }
-    Number::Value(value)
-}
-
-// The low byte of a number: all of one that was read as at most 255.
-pub fn low8(n: u64) -> u8 {
-    (n % 256) as u8
-}
-
-// The low four bytes of a number: all of one that was read as at most 2^32 - 1.
-pub fn low32(n: u64) -> u32 {
-    (n % 0x1_0000_0000) as u32
+    Some(number)
 }

@@ -19,7 +19,7 @@ use Rattle.blake2b_state.specs.State.{state_in_range, updated, finalized, counte
 use Rattle.blake2b.specs.Row.{row_taker}
 use Rattle.blake2b.specs.declared.params.Params.{Params}
 use Rattle.blake2b_state.specs.declared.state.State.{State}
-use Rattle.blake2b_state.specs.declared.state.StateAnswer.{StateAnswer}
+use Rattle.blake2b_state.specs.Answers.{StateAnswer}
 use Rattle.blake2b.proofs.Cleaned.{good_defaults}
 use Rattle.blake2b.proofs.Plain.{hash_plain, length_of_digest, plain_within}
 use Rattle.blake2b.proofs.Rows.{state_of, Reached, range_reached, says_number, says_next, says_digest, says_count, opened_state}

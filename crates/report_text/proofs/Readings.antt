@@ -1,23 +1,19 @@
--- A report after a read of the machine's, case by case of what it answered: the machine tests its sign.
+-- A report after a read of the machine's, by what it answered.
 -- Assumes nothing.
 use mathlib.Core.Path.{◌≡◌, refl, sym, ap, ◌∙◌}
-use mathlib.Core.Bool.{Bool, true, false, false≢true}
+use mathlib.Core.Bool.{Bool, true, false}
 use mathlib.Core.List.{List}
 use Prim.Native.Nat.{ℕ, zero, suc, min}
 use native.Mathlib.Omega.{arith}
-use native.Mathlib.Nat.{not-suc-le-zero}
-use borrow.Author.Tests.{leb-true, leb-false, ltb-true}
+use borrow.Author.Tests.{leb-true, leb-false}
 use lib.Dec.{leb}
 use lib.IntN.{ℤ, pos, negsuc}
 use lib.ListN.{length, take}
 use lib.Seq.{take_all}
-use lib.Signed.{lt_z}
-use mir.Syntax.{w64}
-use mir.Val.{SFits, to_z, of_z}
-use mir.Facts.{to_z-of_z}
-use Rattle.io.specs.Counts.{clamp_len}
+use Rattle.std.specs.Prelude.{Err}
+use Rattle.report_text.specs.Answers.{Reading, as_got}
 use Rattle.report_text.specs.Reads.{after_reads, came}
-use Rattle.report_text.specs.Report.{taken, failed, after_reading}
+use Rattle.report_text.specs.Report.{taken, after_reading}
 use Rattle.report_text.specs.declared.report.Report.{Report}
 
 -- no more than there is can be taken
@@ -31,10 +27,6 @@ take_least n s = split (leb n (length s)) refl
         let h : min n (length s) ≡ length s = omega arith in
         rw h (take_all (length s) s (omega arith) ∙ sym (take_all n s (omega arith)))
 
--- the sign that the machine sees is the number's own
-sign : {z : ℤ} {b : Bool} → SFits w64 z → lt_z (to_z w64 (of_z w64 z)) (pos 0) ≡ b → lt_z z (pos 0) ≡ b
-sign fits test = ap (λ (y : ℤ). lt_z y (pos 0)) (sym (to_z-of_z fits)) ∙ test
-
 module _ (r : Report) (buffer : List ℕ) where
   -- so the reads of a program are reads as the theorems take them
   pub read_as_came : (z : ℤ) → (after_reading r z buffer).report ≡ after_reads r (came z buffer)
@@ -43,30 +35,13 @@ module _ (r : Report) (buffer : List ℕ) where
   read_as_came (pos zero) = refl
   read_as_came (pos (suc n)) = refl
 
-  failed_below : (z : ℤ) {f : Report} → lt_z z (pos 0) ≡ true → f ≡ failed r → record { report = f; more = false } ≡ after_reading r z buffer
+  -- every number below 0 is a read that failed, as an Err is
+  pub any_failure : (n : ℕ) {E : Type 0} (e : E) → after_reading r (negsuc n) buffer ≡ after_reading r (as_got (Err e)) buffer
   unfolding after_reading
-  failed_below (pos n) below e = absurd (not-suc-le-zero (ltb-true n 0 below))
-  failed_below (negsuc n) below e = λ i. record { report = e i; more = false }
+  any_failure n e = refl
 
-  pub read_failed : (z : ℤ) {f : Report} → SFits w64 z → lt_z (to_z w64 (of_z w64 z)) (pos 0) ≡ true → f ≡ failed r → record { report = f; more = false } ≡ after_reading r z buffer
-  read_failed z fits test e = failed_below z (sign fits test) e
-
-  ended_at : (z : ℤ) → lt_z z (pos 0) ≡ false → of_z w64 z ≡ 0 → record { report = r; more = false } ≡ after_reading r z buffer
+  -- a piece of as many bytes as were read
+  pub read_took : (n : ℕ) → (n ≡ 0 → ⊥) → ◌≡◌ {A = Reading} record { report = taken r (take (min n (length buffer)) buffer); more = true } (after_reading r (pos n) buffer)
   unfolding after_reading
-  ended_at (pos zero) above none = refl
-  ended_at (pos (suc n)) above none = absurd (omega arith)
-  ended_at (negsuc n) above none = absurd (false≢true (sym above))
-
-  pub read_ended : (z : ℤ) → SFits w64 z → lt_z (to_z w64 (of_z w64 z)) (pos 0) ≡ false → of_z w64 z ≡ 0 → record { report = r; more = false } ≡ after_reading r z buffer
-  read_ended z fits test none = ended_at z (sign fits test) none
-
-  took : (z : ℤ) {n : ℕ} {q : Report} → lt_z z (pos 0) ≡ false → (of_z w64 z ≡ 0 → ⊥) → n ≡ clamp_len z (length buffer)
-      → q ≡ taken r (take n buffer) → record { report = q; more = true } ≡ after_reading r z buffer
-  unfolding after_reading
-  took (pos zero) above some e f = absurd (some refl)
-  took (pos (suc k)) above some e f = λ i. record { report = (f ∙ ap (λ (a : List ℕ). taken r a) (ap (λ (m : ℕ). take m buffer) e ∙ take_least (suc k) buffer)) i; more = true }
-  took (negsuc k) above some e f = absurd (false≢true (sym above))
-
-  pub read_took : (z : ℤ) {n : ℕ} {q : Report} → SFits w64 z → lt_z (to_z w64 (of_z w64 z)) (pos 0) ≡ false → (of_z w64 z ≡ 0 → ⊥) → n ≡ clamp_len (to_z w64 (of_z w64 z)) (length buffer)
-      → q ≡ taken r (take n buffer) → record { report = q; more = true } ≡ after_reading r z buffer
-  read_took z fits test some e f = took z (sign fits test) some (e ∙ ap (λ (y : ℤ). clamp_len y (length buffer)) (to_z-of_z fits)) f
+  read_took zero some = absurd (some refl)
+  read_took (suc n) some = ap (λ (a : List ℕ). record { report = taken r a; more = true }) (take_least (suc n) buffer)

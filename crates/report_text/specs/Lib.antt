@@ -1,4 +1,5 @@
 pub mod Ascii
 pub mod Lines
+pub mod Answers
 pub mod Report
 pub mod Reads

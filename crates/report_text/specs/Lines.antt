@@ -1,6 +1,6 @@
 -- The report's lines, as document 01's module 6 spells them, and numbers in decimal.
 -- Assumes nothing.
-use Rattle.std.specs.Prelude.{cond, List, [], ◌∷◌, ◌++◌, ◌≡◌, ℕ, zero, suc, ◌+◌, ◌/◌, ◌%◌, ltb, length, take}
+use Rattle.std.specs.Prelude.{cond, List, [], ◌∷◌, ◌++◌, ℕ, zero, suc, ◌+◌, ◌/◌, ◌%◌, ltb}
 use Rattle.hash.specs.Hash.{hex_of}
 use Rattle.report_text.specs.Ascii.{ascii}
 
@@ -37,7 +37,3 @@ five_lines hash_length key_length count digest =
 -- what is reported where a read failed
 unfoldable pub unreadable : List ℕ
 unreadable = line (ascii "result") (ascii "unreadable")
-
--- a text was written to a buffer at a place, behind what lies in front of it: what the buffer is then, and the place behind the text
-abbrev pub Appends : List ℕ → ℕ → List ℕ → List ℕ → ℕ → Type 0
-Appends out at text now end = (end ≡ at + length text) × (take end now ≡ take at out ++ text)

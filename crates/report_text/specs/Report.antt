@@ -7,9 +7,9 @@ use Rattle.hash.specs.Output.{wrote, wrote_over}
 use Rattle.blake2b.specs.Params.{defaults}
 use Rattle.blake2b_state.specs.State.{state_in_range, updated, finalized, counted}
 use Rattle.blake2b.specs.Member.{fresh}
-use Rattle.hash.specs.declared.LengthAnswer.{LengthAnswer}
+use Rattle.hash.specs.Answers.{LengthAnswer}
 use Rattle.report_text.specs.Lines.{five_lines, unreadable}
-use Rattle.report_text.specs.declared.report.Reading.{Reading}
+use Rattle.report_text.specs.Answers.{Reading}
 use Rattle.report_text.specs.declared.report.Report.{Report}
 
 -- nothing was read

@@ -5,4 +5,4 @@
 mod lines;
 mod report;
 
-pub use report::{Reading, Report};
+pub use report::Report;

@@ -1,37 +1,56 @@
-// Lines of text, written behind one another into a lent buffer that has room for them.
-// A function takes the place to write at, and answers the place behind what it wrote.
-ghost use Rattle.std.specs.Prelude.{◌≡◌, ◌+◌, ◌≤◌, length};
-ghost use Rattle.std.proofs.Math.Seq.{paste};
-ghost use Rattle.report_text.specs.Lines.{line, Appends, decimal as decimalOf};
+// Lines of text, one behind another, in a text that has room for the longest report.
+ghost use Rattle.std.specs.Prelude.{◌≡◌, [], ◌++◌, ◌+◌, ◌≤◌, length};
+ghost use Rattle.report_text.specs.Lines.{line, decimal as decimal_of};
 
-use guts::store;
+use arrayvec::ArrayVec;
 use io::decimal;
 
-fn put(out: &mut [u8], at: usize, text: &[u8]) -> usize
-    requires { at + length text.now ≤ length out.old }
-    ensures { (result ≡ at + length text.now) × (out.new ≡ paste out.old at text.now (length text.now)) }
-{
-    store(out, at, text);
-    at + text.len()
+// The bytes that a text has room for.
+pub(crate) const ROOM: usize = 256;
+
+#[derive(Drop)]
+pub(crate) struct Lines {
+    text: ArrayVec<u8, ROOM>,
 }
 
-pub(crate) fn put_line(out: &mut [u8], at: usize, name: &[u8], value: &[u8]) -> usize
-    requires { at + (length name.now + length value.now + 2) ≤ length out.old }
-    ensures { Appends out.old at (line name.now value.now) out.new result }
-{
-    let named = put(out, at, name);
-    let equals = put(out, named, b"=");
-    let valued = put(out, equals, value);
-    put(out, valued, b"\n")
-}
+impl Lines {
+    pub(crate) fn new() -> Self
+        ensures { result.text.items ≡ [] }
+    {
+        Lines {
+            text: ArrayVec::new(),
+        }
+    }
 
-// A number has at most twenty digits.
-pub(crate) fn put_number(out: &mut [u8], at: usize, name: &[u8], number: u64) -> usize
-    requires { at + (length name.now + 22) ≤ length out.old }
-    ensures { (result ≤ at + (length name.now + 22))
-        × Appends out.old at (line name.now (decimalOf number)) out.new result }
-{
-    let mut digits = [0u8; 20];
-    let k = decimal(number, &mut digits);
-    put_line(out, at, name, &digits[..k])
+    // One line more: a name, and what it is.
+    #[tactic(auto, using(crate::proofs::Appending::line_appended))]
+    pub(crate) fn line(mut self, name: &[u8], value: &[u8]) -> Self
+        requires { length self.text.items + (length name.now + length value.now + 2) ≤ ROOM }
+        ensures text { result.text.items ≡ self.text.items ++ line name.now value.now }
+        ensures room { length result.text.items ≡ length self.text.items + (length name.now + length value.now + 2) }
+    {
+        self.text.try_extend_from_slice(name).unwrap();
+        self.text.try_extend_from_slice(b"=").unwrap();
+        self.text.try_extend_from_slice(value).unwrap();
+        self.text.try_extend_from_slice(b"\n").unwrap();
+        self
+    }
+
+    // One line more, whose value is a number in decimal: it has at most twenty digits.
+    #[tactic(auto, using(crate::proofs::Decimals::digits_decimal, crate::proofs::Appending::number_fits))]
+    pub(crate) fn number(self, name: &[u8], number: u64) -> Self
+        requires { length self.text.items + (length name.now + 22) ≤ ROOM }
+        ensures text { result.text.items ≡ self.text.items ++ line name.now (decimal_of number) }
+        ensures room { length result.text.items ≤ length self.text.items + (length name.now + 22) }
+    {
+        let mut digits = [0; 20];
+        let k = decimal(number, &mut digits);
+        self.line(name, &digits[..k])
+    }
+
+    pub(crate) fn as_slice(&self) -> &[u8]
+        ensures { result.now ≡ self.now.text.items }
+    {
+        self.text.as_slice()
+    }
 }

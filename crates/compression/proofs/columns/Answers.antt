@@ -13,14 +13,4 @@ long c = search rules
 
 pub returns : goal.returns
 returns c =
-    let c3 = c.before in
-    let c2 = c3.before in
-    let c1 = c2.before in
-    let c0 = c1.before in
-    let v = c0.args.v in
-    let x = c0.args.x in
-    columns_is BLAKE2b x v (long c0)
-    c1.g-q0.ensures
-    c2.g-q1.ensures
-    c3.g-q2.ensures
-    c.g-q3.ensures
+    columns_is BLAKE2b c.args.x c.args.v (long (goal.at.returns c).Start) c.g.ensures c.g-2.ensures c.g-3.ensures c.g-4.ensures

@@ -13,14 +13,4 @@ long c = search rules
 
 pub returns : goal.returns
 returns c =
-    let c3 = c.before in
-    let c2 = c3.before in
-    let c1 = c2.before in
-    let c0 = c1.before in
-    let v = c0.args.v in
-    let x = c0.args.x in
-    diagonals_is BLAKE2b x v (long c0)
-    c1.g-p0.ensures
-    c2.g-p1.ensures
-    c3.g-p2.ensures
-    c.g-p3.ensures
+    diagonals_is BLAKE2b c.args.x c.args.v (long (goal.at.returns c).Start) c.g.ensures c.g-2.ensures c.g-3.ensures c.g-4.ensures

@@ -1,6 +1,7 @@
 -- `compression::start` meets its contract.
 -- Assumes nothing.
 use mathlib.Core.Path.{◌≡◌, refl}
+use Prim.Native.Nat.{◌/◌, ◌%◌, ◌^◌}
 use lib.ListN.{length}
 use Rattle.definitions.specs.Family.{BLAKE2b}
 use Rattle.laws_words.specs.Halves.{initial}
@@ -14,4 +15,6 @@ long c = search rules
 
 pub returns : goal.returns
 unfolding initial
-returns c = by_front 8 (λ h. initial BLAKE2b h c.args.count_low c.args.count_high c.args.last c.args.node) c.args.h (long c) refl
+returns c =
+    let a = c.args in
+    by_front 8 (λ h. initial BLAKE2b h (a.count % 2 ^ 64) (a.count / 2 ^ 64) a.last a.node) a.h (long (goal.at.returns c).Start) refl

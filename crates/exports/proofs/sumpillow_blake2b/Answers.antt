@@ -13,7 +13,7 @@ use Rattle.exports.proofs.sumpillow_blake2b.Goals as goal
 
 pub returns : goal.returns
 returns c =
-    let a = c.args in
-    let m = a.input.now in
-    written_output (blake2 BLAKE2b outbytes [] m) a.out.now outbytes (omega arith) (omega arith) (length_of_digest m)
-    (c.blake2b.ensures ∙ ap hash_of (digest_plain m)) c.write_bytes-written.ensures
+    let m = c.args.input.now in
+    let w = written_output (blake2 BLAKE2b outbytes [] m) c.args.out.now outbytes (omega arith) (omega arith) (length_of_digest m)
+    (c.blake2b.ensures ∙ ap hash_of (digest_plain m)) c.write_bytes.ensures in
+    (c.number_in.ensures ∙ w.0, w.1)

@@ -12,7 +12,7 @@ use Rattle.exports_blake2bp.proofs.sumpillow_blake2bp.Goals as goal
 
 pub returns : goal.returns
 returns c =
-    let a = c.args in
-    let m = a.input.now in
-    written_output (BLAKE2bp outbytes [] m) a.out.now outbytes (omega arith) (omega arith) (length_of_digest m)
-    (c.blake2bp.ensures ∙ ap hash_of (digest_plain m)) c.write_bytes-written.ensures
+    let m = c.args.input.now in
+    let w = written_output (BLAKE2bp outbytes [] m) c.args.out.now outbytes (omega arith) (omega arith) (length_of_digest m)
+    (c.blake2bp.ensures ∙ ap hash_of (digest_plain m)) c.write_bytes.ensures in
+    (c.number_in.ensures ∙ w.0, w.1)

@@ -1,10 +1,13 @@
 -- `refusals::piece_ok` meets its contract.
 -- Assumes nothing.
-use Rattle.refusals.proofs.Pieces.{starts_past, starts_inside}
+use Rattle.std.proofs.Common.{rules}
+use Rattle.refusals.specs.Numbers.{piece_ok}
 use Rattle.refusals.proofs.piece_ok.Goals as goal
 
 pub returns-then-start-data_length : goal.returns-then-start-data_length
-returns-then-start-data_length c = starts_past _ _ _ c.if-start-data_length.true
+unfolding piece_ok
+returns-then-start-data_length c = search rules
 
-pub returns : goal.returns
-returns c = starts_inside _ _ _ c.if-start-data_length.false
+pub returns-else-start-data_length : goal.returns-else-start-data_length
+unfolding piece_ok
+returns-else-start-data_length c = search rules

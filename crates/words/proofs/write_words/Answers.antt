@@ -1,56 +1,73 @@
--- `words::write_words` meets its contract. The loops' invariants: i words are written, and j bytes of the next.
+-- `words::write_words` meets its contract: the bytes of a word more, and at the end those of all eight.
 -- Assumes nothing.
 use mathlib.Core.Path.{◌≡◌, refl, sym, ap, ◌∙◌}
-use mathlib.Core.List.{flat_map}
-use Prim.Native.Nat.{ℕ, ◌+◌, ◌*◌, ◌/◌, ◌%◌, ◌^◌}
-use native.Mathlib.Nat.{not-suc-le-zero, div-one}
+use mathlib.Core.List.{List, [], ◌∷◌, ◌++◌, flat_map, append_assoc, append-nil}
+use Prim.Native.Nat.{ℕ, zero, suc, ◌+◌, ◌-◌, ◌*◌, ◌/◌, ◌%◌, ◌^◌, ◌<◌, ◌≤◌}
+use native.Mathlib.Nat.{div-one, div-div-eq-div-mul, pow-suc}
 use native.Mathlib.Omega.{arith}
 use borrow.Author.Rules.{rules}
-use lib.Pow.{shr-shr}
-use lib.ListN.{length, length-set}
-use lib.Seq.{ext_get_or}
+use borrow.Rule.Slice.PartMut.{put_mid, same_len_mid}
+use lib.ListN.{length, take}
+use Rattle.std.proofs.lemmas.List.{take_more, take_all}
+use Rattle.std.proofs.lemmas.Slice.{take-put_mid}
+use Rattle.std.specs.Int.{byte_at, bytes_low_first}
 use Rattle.definitions.specs.Words.{◌!◌, bytes}
-use Rattle.definitions.specs.Family.{BLAKE2b}
 use Rattle.definitions.specs.Hash.{state_bytes}
-use Rattle.laws_words.proofs.Bytes.{flat_at, bytes_at, length_flat}
-use Rattle.laws_words.proofs.Lists.{set_more}
 use Rattle.words.proofs.write_words.Goals as goal
+use Rattle.words.proofs.write_words.Goals.{Start}
 
-long : (c : goal.Start) → length c.args.h ≡ 8
-long c = search rules
+eight : (c : Start) → length c.args.h ≡ 8
+eight c = search rules
+
+flat_append : (f : ℕ → List ℕ) (a b : List ℕ) → flat_map f (a ++ b) ≡ flat_map f a ++ flat_map f b
+unfolding flat_map
+flat_append f [] b = refl
+flat_append f (x ∷ a) b = ap (λ (r : List ℕ). f x ++ r) (flat_append f a b) ∙ sym (append_assoc (f x) (flat_map f a) (flat_map f b))
+
+flat_one : (f : ℕ → List ℕ) (x : ℕ) → flat_map f (x ∷ []) ≡ f x
+unfolding flat_map
+flat_one f x = append-nil (f x)
+
+-- where the bytes of the first i words stand in front, and then those of the word i
+word_more : (f : ℕ → List ℕ) (out h e : List ℕ) (i n m k : ℕ) → i < length h → n ≤ length out → k ≡ n + length e → e ≡ f (h ! i)
+    → take n out ≡ flat_map f (take i h) → take k (put_mid n m out e) ≡ flat_map f (take (i + 1) h)
+word_more f out h e i n m k b l w is before =
+    take-put_mid n m out e k w l ∙ (λ j. before j ++ is j)
+    ∙ sym (ap (flat_map f) (take_more h i 0 b) ∙ flat_append f (take i h) (h ! i ∷ []) ∙ ap (λ (r : List ℕ). flat_map f (take i h) ++ r) (flat_one f (h ! i)))
+
+-- what std calls the eight bytes of a word
+le_bytes : (i k x : ℕ) → bytes_low_first i k x ≡ bytes k (x / 256 ^ i)
+le_bytes i zero x = refl
+le_bytes i (suc k) x = λ j. byte i x j ∷ (le_bytes (suc i) k x ∙ ap (bytes k) (next i x)) j
+  where
+    byte : (i x : ℕ) → byte_at i x ≡ x / 256 ^ i % 256
+    byte zero x = ap (λ (y : ℕ). y % 256) (sym (div-one x))
+    byte (suc i) x = refl
+
+    next : (i x : ℕ) → x / 256 ^ suc i ≡ x / 256 ^ i / 256
+    next i x = ap (λ (p : ℕ). x / p) (pow-suc 256 i) ∙ sym (div-div-eq-div-mul x (256 ^ i) 256)
 
 pub loop-i-init : goal.loop-i-init
-loop-i-init c = (omega arith, refl, λ k h. absurd (not-suc-le-zero h))
-
-pub loop-j-init : goal.loop-j-init
-loop-j-init c =
-    let l = c.before.loop-i in
-    (omega arith, l.invariant.1, sym (div-one (c.before.before.args.h ! l.i)), λ k h. l.invariant.2 k (omega arith))
-
-pub loop-j-preserved : goal.loop-j-preserved
-loop-j-preserved c =
-    let l = c.before.loop-j in
-    let i = c.before.before.before.loop-i.i in
-    let j = l.j in
-    let h = c.before.before.before.before.args.h in
-    let e : 8 * j + 8 ≡ 8 * (j + 1) = omega arith in
-    let w : l.x % 256 ≡ flat_map (bytes 8) h ! (i * 8 + j) =
-    ap (λ (x : ℕ). x % 256) l.invariant.2 ∙ sym (flat_at 8 h i j (omega (arith, long c.before.before.before.before)) (omega arith) ∙ bytes_at 8 (h ! i) j (omega arith)) in (
-      omega arith,
-      length-set l.out (i * 8 + j) (l.x % 256) ∙ l.invariant.1,
-      ap (λ (x : ℕ). x / 256) l.invariant.2 ∙ shr-shr (h ! i) (8 * j) 8 ∙ ap (λ (n : ℕ). h ! i / 2 ^ n) e,
-      λ k b. set_more l.out (i * 8 + j) (l.x % 256) (λ n. flat_map (bytes 8) h ! n) (omega arith) w l.invariant.3 k (omega arith),
-    )
+unfolding flat_map
+loop-i-init c = (refl, refl)
 
 pub loop-i-preserved : goal.loop-i-preserved
 loop-i-preserved c =
-    let l = c.before.loop-j in
-    (omega arith, l.invariant.1, λ k b. l.invariant.3 k (omega arith))
+    let l = c.loop-i in
+    let h = c.args.h in
+    let e = c.copy_from_slice.new.self in
+    let is : e ≡ bytes 8 (h ! l.i) =
+    c.copy_from_slice.ensures.after ∙ c.to_le_bytes.ensures ∙ le_bytes 0 8 (h ! l.i) ∙ ap (bytes 8) (div-one (h ! l.i)) in
+    let long : length e ≡ 8 = ap length is in
+    let n = eight (goal.at.loop-i-preserved c).Start in (
+      same_len_mid (l.i * 8) (l.i * 8 + 8 - l.i * 8) l.out e c.copy_from_slice.ensures.len ∙ l.invariant.0,
+      word_more (bytes 8) l.out h e l.i (l.i * 8) (l.i * 8 + 8 - l.i * 8) ((l.i + 1) * 8) (omega arith) (omega arith) (omega arith) is l.invariant.1,
+    )
 
 pub returns : goal.returns
 unfolding state_bytes
 returns c =
-    let l = c.before.loop-i in
-    let h = c.before.before.args.h in
-    let n : length (flat_map (bytes 8) h) ≡ 8 * BLAKE2b.ww = length_flat 8 h ∙ ap (λ (n : ℕ). n * 8) (long c.before.before) in
-    ext_get_or 0 l.out (flat_map (bytes 8) h) (l.invariant.1 ∙ sym n) (λ k b. l.invariant.2 k (omega arith))
+    let l = c.loop-i in
+    let n = eight (goal.at.returns c).Start in
+    let i : l.i ≡ 8 = omega arith in
+    sym (take_all (l.i * 8) l.out (omega arith)) ∙ l.invariant.1 ∙ ap (flat_map (bytes 8)) (take_all l.i c.args.h (omega arith))

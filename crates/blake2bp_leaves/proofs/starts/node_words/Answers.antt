@@ -7,4 +7,4 @@ use Rattle.blake2bp_leaves.proofs.starts.node_words.Goals as goal
 pub returns : goal.returns
 returns c =
     let a = c.args in
-    c.parameter_words.ensures ∙ zeros_are_none a.hash_length a.key_length a.offset a.depth
+    c.words.ensures ∙ zeros_are_none a.hash_length a.key_length a.offset a.depth

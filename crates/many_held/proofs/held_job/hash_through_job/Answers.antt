@@ -1,24 +1,24 @@
 -- `many_held::held_job::hash_through_job` meets its contract.
 -- Assumes nothing.
-use mathlib.Core.Path.{◌≡◌, ap, ◌∙◌}
-use borrow.Author.Rules.{rules}
+use mathlib.Core.Path.{◌≡◌, ◌∙◌}
 use lib.ListN.{length}
+use Rattle.std.proofs.Common.{rules}
+use Rattle.std.proofs.lemmas.Result.{err_from_is_err_and}
 use Rattle.blake2b_state.specs.Sizes.{blockbytes}
-use Rattle.many_held.specs.HeldJob.{ran_job, job_hash}
-use Rattle.many_held.specs.Steps.{unless_refused}
-use Rattle.many_held.specs.declared.held_job.JobAnswer.{JobAnswer}
-use Rattle.many_held.proofs.Answers.{through}
+use Rattle.many_held.proofs.Answers.{not_made, run_not_refused, digest_through}
 use Rattle.many_held.proofs.held_job.hash_through_job.Goals as goal
 use Rattle.many_held.proofs.held_job.hash_through_job.Goals.{Start}
 
 whole : (c : Start) → length c.args.params.key_block ≡ blockbytes
 whole c = search rules
 
--- what the calls promised of one another's answers
+pub returns-in_err-new : goal.returns-in_err-new
+returns-in_err-new c =
+    let p = err_from_is_err_and c.from_residual.result c.from_residual.ensures.1 in
+    rw (p.1, p.2) (not_made c.args.params (whole (goal.at.returns-in_err-new c).Start) c.args.input _ c.in_err-new.ensures)
+
+pub returns-in_err-run : goal.returns-in_err-run
+returns-in_err-run c = absurd (run_not_refused c.args.params (whole (goal.at.returns-in_err-run c).Start) c.args.input c.in_ok-new.ensures _ c.in_err-run.ensures)
+
 pub returns : goal.returns
-returns c =
-    let ran = c.run-ran.ensures ∙ ap (λ (a : JobAnswer). ran_job a.job) c.new-made.ensures in
-    let hash = c.to_hash.ensures ∙ ap (λ (a : JobAnswer). job_hash a.job) ran in
-    c.unless_refused.ensures
-    ∙ (λ i. unless_refused (c.new-made.ensures i).number (hash i))
-    ∙ through c.args.params (whole (goal.at.returns c).Start) c.args.input.now
+returns c = c.to_hash.ensures ∙ digest_through c.args.params (whole (goal.at.returns c).Start) c.args.input c.in_ok-new.ensures c.in_ok-run.ensures

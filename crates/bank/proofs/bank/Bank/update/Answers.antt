@@ -1,14 +1,16 @@
 -- `bank::bank::Bank::update` meets its contract.
 -- Assumes nothing.
-use Rattle.bank.proofs.Steps.{within_slots, call_refused, call_answered}
+use Rattle.std.proofs.Common.{refl, rules}
+use Rattle.blake2b_state.proofs.Exits.{handed_on}
+use Rattle.bank.proofs.Steps.{call_refused, slot_refused, slot_changed}
 use Rattle.bank.proofs.bank.Bank.update.Goals as goal
 
-pub returns-then-number-ne-ACCEPTED : goal.returns-then-number-ne-ACCEPTED
-returns-then-number-ne-ACCEPTED c = call_refused _ _ _ c.fault-number.ensures c.if-number-ne-ACCEPTED.true
+pub returns-in_err-check : goal.returns-in_err-check
+returns-in_err-check c = rw (handed_on c.from_residual.ensures.1 refl) (call_refused _ _ _ refl _ c.in_err-check.ensures.number)
 
-pub answered-requires : goal.answered-requires
-answered-requires c = within_slots _ _ _ c.fault-number.ensures c.if-number-ne-ACCEPTED.false
+pub returns-in_err-next : goal.returns-in_err-next
+returns-in_err-next c =
+    rw (handed_on c.from_residual-in_err-next.ensures.1 refl) (slot_refused _ _ _ refl c.in_ok-check.ensures.number (search rules) _ _ c.in_err-next.ensures)
 
 pub returns : goal.returns
-returns c =
-    call_answered _ _ _ c.fault-number.ensures c.if-number-ne-ACCEPTED.false c.slot-s.ensures c.update.ensures c.answered.ensures
+returns c = slot_changed _ _ _ refl c.in_ok-check.ensures.number (search rules) _ _ c.in_ok-next.ensures c.with.ensures

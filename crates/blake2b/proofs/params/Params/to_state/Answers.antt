@@ -1,22 +1,30 @@
 -- `blake2b::params::Params::to_state` meets its contract.
 -- Assumes nothing.
-use mathlib.Core.Bool.{not}
-use mathlib.Core.Path.{sym, ap, ◌∙◌}
-use Rattle.refusals.specs.Numbers.{accepted, bad_record}
-use Rattle.refusals.proofs.Picks.{passed, refused}
-use Rattle.blake2b_state.specs.State.{reads}
+use mathlib.Core.Path.{◌≡◌, ◌∙◌}
+use mathlib.Core.Bool.{Bool, true, false}
+use mathlib.Core.List.{List, []}
+use Prim.Native.Nat.{ℕ}
+use Rattle.std.specs.Prelude.{Option, is_some, unwrap_or}
+use Rattle.std.specs.Bool.{then_some}
+use Rattle.refusals.specs.Numbers.{accepted}
+use Rattle.refusals.proofs.Picks.{holds}
+use Rattle.blake2b_state.specs.State.{begun, beginning, key_front}
+use Rattle.blake2b_state.proofs.States.{begins}
 use Rattle.blake2b.specs.Member.{opened}
+use Rattle.blake2b.proofs.Members.{digest_asked}
 use Rattle.blake2b.proofs.params.Params.to_state.Goals as goal
 
-pub returns-then-not-in_range : goal.returns-then-not-in_range
-unfolding opened
-returns-then-not-in_range c =
-    refused _ _ _ c.in_range.ensures (ap not c.if-not-in_range.true) (ap (reads.state bad_record) c.zero-state.ensures)
-
-pub with_params-state-requires : goal.with_params-state-requires
-with_params-state-requires c = let i = c.in_range in sym i.ensures ∙ c.if-not-in_range.false
+-- a key block where there is a key
+keyed_by : (words : List ℕ) (n : ℕ) (up keyed : Bool) (block : List ℕ) {given : Option (List ℕ)} → given ≡ then_some keyed block
+    → beginning words n up (is_some given) (unwrap_or given []) ≡ beginning words n up keyed block
+unfolding beginning key_front
+keyed_by words n up true block e = rw e
+keyed_by words n up false block e = rw e
 
 pub returns : goal.returns
 unfolding opened
 returns c =
-    passed _ _ _ c.in_range.ensures (ap not c.if-not-in_range.false) (ap (reads.state accepted) c.with_params-state.ensures)
+    let p = c.args.self in
+    let good = c.in_ok-check.ensures in
+    holds _ _ _ good (c.begin.ensures ∙ keyed_by _ _ _ _ _ c.then_some.ensures ∙ begins _ _ _ _ _ (digest_asked p good)
+    ∙ (λ j. record { number = accepted; state = begun (c.to_words.ensures j) p.hash_length p.last_node (c.is_keyed.ensures j) p.key_block }))

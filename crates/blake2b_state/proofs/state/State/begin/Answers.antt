@@ -1,16 +1,29 @@
 -- `blake2b_state::state::State::begin` meets its contract.
 -- Assumes nothing.
-use mathlib.Core.Bool.{not}
-use mathlib.Core.Path.{ap}
-use Rattle.refusals.specs.Numbers.{accepted, digest_length}
-use Rattle.refusals.proofs.Picks.{passed, refused}
-use Rattle.blake2b_state.specs.State.{reads, beginning}
+use mathlib.Core.Path.{◌≡◌}
+use borrow.Author.Rules.{rules}
+use lib.ListN.{length}
+use Rattle.laws_words.specs.Bytes.{zeros}
+use Rattle.laws_words.proofs.Bytes.{pad_whole}
+use Rattle.definitions.specs.Words.{pad}
+use Rattle.blake2b_state.specs.Sizes.{blockbytes}
+use Rattle.blake2b_state.specs.State.{key_front, beginning}
 use Rattle.blake2b_state.proofs.state.State.begin.Goals as goal
+use Rattle.blake2b_state.proofs.state.State.begin.Goals.{In-Some}
+
+whole : (c : In-Some) → length c.in-Some.block ≡ blockbytes
+whole c = search rules
 
 pub returns-then-not-is_digest_length : goal.returns-then-not-is_digest_length
 unfolding beginning
-returns-then-not-is_digest_length c = refused _ _ _ c.is_digest_length.ensures (ap not c.if-not-is_digest_length.true) (ap (reads.state digest_length) c.zero-state.ensures)
+returns-then-not-is_digest_length c = rw (← c.is_digest_length.ensures, c.if-not-is_digest_length.true)
 
-pub returns : goal.returns
-unfolding beginning
-returns c = passed _ _ _ c.is_digest_length.ensures (ap not c.if-not-is_digest_length.false) (ap (reads.state accepted) c.begun-state.ensures)
+pub returns-in-Some : goal.returns-in-Some
+unfolding beginning key_front
+returns-in-Some c =
+    let l = whole (goal.at.returns-in-Some c).In-Some in
+    rw (c.in-Some.is, c.zero.ensures, ← c.is_digest_length.ensures, c.if-not-is_digest_length.false, pad_whole blockbytes c.in-Some.block l, l)
+
+pub returns-in-None : goal.returns-in-None
+unfolding beginning key_front pad zeros
+returns-in-None c = rw (c.in-None.is, c.zero.ensures, ← c.is_digest_length.ensures, c.if-not-is_digest_length.false)

@@ -15,4 +15,4 @@ returns c =
     let a = c.args in
     let whole = c.requires.1 in
     rows_some keeper laws a.self a.input.now a.blocks c.requires.0 whole (length a.input.now) whole c.if-blocks-eq0.false
-    c.absorbed-run.ensures c.zero_block-empty.ensures
+    c.absorbed.ensures c.zeroed.ensures

@@ -1,7 +1,6 @@
 -- `blake2b_state::state::State::compress_buffer` meets its contract.
 -- Assumes nothing.
 use mathlib.Core.Path.{◌≡◌, refl}
-use native.Mathlib.Omega.{arith}
 use lib.ListN.{length}
 use Rattle.members.proofs.Moves.{one_gone}
 use Rattle.blake2b_state.specs.Sizes.{blockbytes}
@@ -14,11 +13,6 @@ use Rattle.blake2b_state.proofs.state.State.compress_buffer.Goals.{Start}
 sized : (c : Start) → length c.args.self.buf ≡ blockbytes
 sized c = search rules
 
-pub absorbed-run-requires : goal.absorbed-run-requires
-absorbed-run-requires c =
-    let l = sized (goal.at.absorbed-run-requires c).Start in
-    (search rules, l, omega arith)
-
 pub returns : goal.returns
 returns c =
-    one_gone keeper laws c.args.self (sized (goal.at.returns c).Start) c.requires.0 refl c.absorbed-run.ensures c.zero_block-empty.ensures
+    one_gone keeper laws c.args.self (sized (goal.at.returns c).Start) c.requires.0 refl c.absorbed.ensures c.zeroed.ensures

@@ -1,15 +1,20 @@
 -- `blake2b_state::state::State::new` meets its contract.
 -- Assumes nothing.
-use mathlib.Core.Path.{◌∙◌}
-use mathlib.Core.Bool.{false}
 use Rattle.laws_words.specs.Bytes.{zeros}
 use Rattle.definitions.specs.Words.{pad}
 use Rattle.definitions.specs.Hash.{parameter_block, start}
 use Rattle.blake2b_state.specs.Sizes.{outbytes}
-use Rattle.blake2b_state.specs.State.{begun}
+use Rattle.blake2b_state.specs.State.{key_front}
 use Rattle.blake2b_state.proofs.state.State.new.Goals as goal
 
 pub returns : goal.returns
-unfolding start parameter_block pad zeros
-returns c =
-    c.begun.ensures ∙ (λ j. begun (c.parameter_words-words.ensures j) outbytes false false (c.zero_block-block.ensures j))
+unfolding start parameter_block key_front pad zeros
+returns c = λ j. let z = c.zero.ensures j in record {
+  words = c.words.ensures j;
+  count = z.count;
+  buf = z.buf;
+  buflen = z.buflen;
+  last_node = z.last_node;
+  hash_length = outbytes;
+  is_keyed = z.is_keyed;
+}

@@ -3,7 +3,7 @@
 use mathlib.Core.Path.{◌≡◌, ap, ◌∙◌}
 use Prim.Native.Nat.{ℕ, ◌+◌, ◌-◌, ◌^◌, ◌<◌, ◌≤◌}
 use native.Mathlib.Omega.{arith}
-use lib.ListN.{length, drop, length-take, length-drop}
+use lib.ListN.{length, drop, length-drop}
 use Rattle.laws_blocks.specs.Chain.{spare}
 use Rattle.laws_states.proofs.Buffers.{Sound}
 use Rattle.laws_states.proofs.Lifts.{filled_held, filled_count, gone_held, gone_count, spill_is}
@@ -34,12 +34,6 @@ sized_full c = search rules
 spare_one : (p n x : ℕ) → p ≤ blockbytes → blockbytes < p + n → x ≡ n - (blockbytes - p) → 1 + spare blockbytes 0 x ≡ spare blockbytes 0 (p + n)
 unfolding spare
 spare_one p n x h g e = omega arith
-
-pub slice_bounds-fill_buf-end : goal.slice_bounds-fill_buf-end
-slice_bounds-fill_buf-end c = let e = entry (goal.at.slice_bounds-fill_buf-end c).Start in simp length-take (omega (arith, e.rest))
-
-pub fill_buf-full-requires : goal.fill_buf-full-requires
-fill_buf-full-requires c = let e = entry (goal.at.fill_buf-full-requires c).Start in simp length-take (omega (arith, e.held))
 
 pub compress_buffer-s-requires : goal.compress_buffer-s-requires
 compress_buffer-s-requires c =

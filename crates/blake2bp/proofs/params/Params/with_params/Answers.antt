@@ -1,11 +1,12 @@
 -- `blake2bp::params::Params::with_params` meets its contract.
 -- Assumes nothing.
-use mathlib.Core.Path.{◌≡◌}
-use native.Mathlib.Nat.{sub-zero}
-use native.Mathlib.Omega.{arith}
+use mathlib.Core.Path.{◌≡◌, refl, sym, ap}
 use lib.ListN.{length}
+use borrow.Author.Tests.{lt-ltb, le-ltb}
+use Rattle.members.specs.Keeper.{key_row}
 use Rattle.blake2bp.specs.Sizes.{keybytes}
-use Rattle.blake2bp.proofs.Fresh.{fresh_keyed, fresh_plain}
+use Rattle.blake2bp.specs.State.{bounds}
+use Rattle.blake2bp.proofs.Fresh.{begins}
 use borrow.Author.Rules.{rules}
 use Rattle.blake2bp.proofs.params.Params.with_params.Goals as goal
 use Rattle.blake2bp.proofs.params.Params.with_params.Goals.{Start}
@@ -13,15 +14,14 @@ use Rattle.blake2bp.proofs.params.Params.with_params.Goals.{Start}
 whole : (c : Start) → length c.args.self.key ≡ keybytes
 whole c = search rules
 
-pub slice_bounds-padded_block-end : goal.slice_bounds-padded_block-end
-slice_bounds-padded_block-end c = let l = whole (goal.at.slice_bounds-padded_block-end c).Start in omega arith
-
-pub returns-then-self-gt0 : goal.returns-then-self-gt0
-returns-then-self-gt0 c =
-    let here = goal.at.returns-then-self-gt0 c in
+pub returns-then-is_keyed : goal.returns-then-is_keyed
+returns-then-is_keyed c =
     let p = c.args.self in
-    fresh_keyed p (whole here.Start) c.requires c.leaf_words-leaves.ensures c.root_words-root.ensures c.if-self-gt0.true (rw (sub-zero p.key_length) at c.padded_block.ensures) c.key_row-buf.ensures
+    begins p (whole (goal.at.returns-then-is_keyed c).Start) c.requires c.leaf_words.ensures c.root_words.ensures c.front.ensures refl
+    (sym (ap (key_row bounds) (lt-ltb 0 p.key_length c.if-is_keyed.true)))
 
-pub returns : goal.returns
-returns c =
-    fresh_plain c.args.self (whole (goal.at.returns c).Start) c.requires c.leaf_words-leaves.ensures c.root_words-root.ensures c.if-self-gt0.false c.zero_buffer-buf.ensures
+pub returns-else-is_keyed : goal.returns-else-is_keyed
+returns-else-is_keyed c =
+    let p = c.args.self in
+    begins p (whole (goal.at.returns-else-is_keyed c).Start) c.requires c.leaf_words.ensures c.root_words.ensures c.front.ensures refl
+    (sym (ap (key_row bounds) (le-ltb 0 p.key_length c.if-is_keyed.false)))

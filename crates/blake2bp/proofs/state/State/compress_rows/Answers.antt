@@ -1,19 +1,17 @@
 -- `blake2bp::state::State::compress_rows` meets its contract.
 -- Assumes nothing.
-use mathlib.Core.Path.{refl}
-use Prim.Native.Nat.{◌*◌}
-use Rattle.members.proofs.Moves.{rows_none, rows_some}
-use Rattle.blake2bp.specs.State.{keeper}
-use Rattle.blake2bp_leaves.specs.Sizes.{blockbytes}
-use Rattle.blake2bp.proofs.States.{keeper_laws}
+use Prim.Native.Nat.{◌-◌, ◌*◌}
+use native.Mathlib.Omega.{arith}
+use lib.ListN.{length, drop, length-drop}
+use lib.Seq.{take_all}
+use Rattle.blake2bp_leaves.specs.Sizes.{rowbytes}
+use Rattle.blake2bp.proofs.Going.{rows_gone}
 use Rattle.blake2bp.proofs.state.State.compress_rows.Goals as goal
-
-pub returns-then-rows-eq0 : goal.returns-then-rows-eq0
-returns-then-rows-eq0 c =
-    rows_none keeper keeper_laws c.args.self c.args.input.now c.args.rows c.requires.0 c.requires.1 c.if-rows-eq0.true
 
 pub returns : goal.returns
 returns c =
     let a = c.args in
-    rows_some keeper keeper_laws a.self a.input.now a.rows c.requires.0 c.requires.1 (blockbytes * a.rows) refl c.if-rows-eq0.false
-    c.compress_to_leaves-leaves.ensures c.zero_buffer-empty.ensures
+    let r = c.requires in
+    let gone = rowbytes * a.rows in
+    let l = length-drop gone a.all.now in
+    rows_gone a.self a.all.now a.rows r.some r.there _ (take_all (length a.all.now - gone) (drop gone a.all.now) (omega arith)) c.compress_to_leaves.ensures c.padded.ensures

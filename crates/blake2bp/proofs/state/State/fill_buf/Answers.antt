@@ -14,9 +14,6 @@ use Rattle.blake2bp.proofs.state.State.fill_buf.Goals.{Start}
 sized : (c : Start) → length c.args.self.buf ≡ roombytes
 sized c = search rules
 
-pub store-requires : goal.store-requires
-store-requires c = let l = sized (goal.at.store-requires c).Start in omega arith
-
 pub returns : goal.returns
 returns c =
     filled keeper keeper_laws c.args.self (record { sized = sized (goal.at.returns c).Start; held = omega arith }) c.args.input.now c.store.ensures

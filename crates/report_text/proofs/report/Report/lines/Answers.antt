@@ -1,30 +1,31 @@
 -- `report_text::report::Report::lines` meets its contract.
 -- Assumes nothing.
-use mathlib.Core.Path.{◌≡◌}
-use mathlib.Core.Bool.{true}
-use native.Mathlib.Omega.{arith}
-use borrow.Author.Rules.{rules}
-use lib.ListN.{length}
-use Rattle.blake2b_state.specs.State.{state_in_range}
-use Rattle.report_text.proofs.Reports.{finalized_in_range, lines_unreadable, lines_readable}
+use mathlib.Core.Path.{refl, ◌∙◌}
+use Rattle.blake2b_state.proofs.Exits.{handed_on}
+use Rattle.report_text.proofs.Reports.{finalize_told, finalize_refused, count_refused, lines_readable, lines_unreadable}
 use Rattle.report_text.proofs.report.Report.lines.Goals as goal
-use Rattle.report_text.proofs.report.Report.lines.Goals.{Start}
 
-asked : (c : Start) → (state_in_range c.args.self.state ≡ true) × (length c.args.out.now ≡ 256)
-asked c = search rules
+pub returns-in_err-hash : goal.returns-in_err-hash
+returns-in_err-hash c =
+    let bad = finalize_refused c.args.self.state _ c.in_err-hash.ensures in
+    rw (handed_on {r = c.from_residual.result} c.from_residual.ensures.1 bad.1) (bad.0, refl)
 
-pub returns-then-not-self : goal.returns-then-not-self
-returns-then-not-self c =
-    let a = c.args in
-    lines_unreadable a.self a.out.now c.put_line.new.out c.put_line.result c.if-not-self.true c.put_line.ensures
+pub returns-in_err-count : goal.returns-in_err-count
+returns-in_err-count c =
+    let bad = count_refused c.args.self.state _ c.in_err-count.ensures in
+    rw (handed_on {r = c.from_residual-in_err-count.result} c.from_residual-in_err-count.ensures.1 bad.1) (bad.0, refl)
 
-pub put_five-requires : goal.put_five-requires
-put_five-requires c =
-    let l = (asked (goal.at.put_five-requires c).Start).1 in
-    (finalized_in_range c.args.self.state (asked (goal.at.put_five-requires c).Start).0 c.finalize-done.ensures, omega (arith, l))
+pub five_lines-requires : goal.five_lines-requires
+five_lines-requires c = (finalize_told c.args.self.state c.in_ok-hash.ensures).1
+
+pub returns-then-self : goal.returns-then-self
+returns-then-self c = (
+  (finalize_told c.args.self.state c.in_ok-hash.ensures).0,
+  c.five_lines.ensures ∙ lines_readable c.args.self _ _ c.if-self.true c.in_ok-hash.ensures c.in_ok-count.ensures,
+)
 
 pub returns : goal.returns
-returns c =
-    let a = c.args in
-    lines_readable a.self a.out.now c.put_five.new.out c.put_five.result c.if-not-self.false
-    c.finalize-done.ensures c.count-count.ensures c.put_five.ensures
+returns c = (
+  (finalize_told c.args.self.state c.in_ok-hash.ensures).0,
+  rw (c.line.ensures.text, c.new.ensures) (lines_unreadable c.args.self c.if-self.false),
+)

@@ -1,9 +1,0 @@
--- `many_work::work::Work::zero` meets its contract.
--- Assumes nothing.
-use mathlib.Core.Path.{refl}
-use Rattle.laws_words.specs.Bytes.{zeros}
-use Rattle.many_work.proofs.work.Work.zero.Goals as goal
-
-pub returns : goal.returns
-unfolding zeros
-returns c = refl

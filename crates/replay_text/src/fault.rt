@@ -1,0 +1,24 @@
+// What is wrong with a line that is no call.
+use std::error::Error;
+use std::fmt;
+
+#[derive(Clone, Copy, Debug, PartialEq, Eq)]
+pub enum Fault {
+    Command,
+    Number,
+    Message,
+    Line,
+}
+
+impl fmt::Display for Fault {
+    fn fmt<W: fmt::Write>(&self, f: &mut fmt::Formatter<W>) -> fmt::Result {
+        f.write_str(match self {
+            Fault::Command => "malformed command",
+            Fault::Number => "malformed number",
+            Fault::Message => "malformed message",
+            Fault::Line => "malformed line",
+        })
+    }
+}
+
+impl Error for Fault {}

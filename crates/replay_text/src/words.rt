@@ -1,0 +1,52 @@
+// The words of a line, one space between two: taken from the front, as what the line's call takes.
+ghost use Rattle.std.specs.Prelude.{◌≤◌, IfOk};
+
+use crate::fault::Fault;
+use crate::message::read_message;
+use crate::text::{read_number, split_once};
+
+// What is left of a line, if anything is.
+#[derive(Clone, Copy)]
+pub struct Words<'a> {
+    rest: Option<&'a [u8]>,
+}
+
+impl<'a> Words<'a> {
+    pub fn of(line: &'a [u8]) -> Self {
+        Words { rest: Some(line) }
+    }
+
+    // The next word: no bytes where none is left.
+    pub fn next_word(&mut self) -> &'a [u8] {
+        let (word, rest) = split_once(self.rest.unwrap_or_default(), b' ');
+        self.rest = rest;
+        word
+    }
+
+    // A number of at most `most`, with more to come behind it.
+    pub fn number(&mut self, most: u64) -> Result<u64, Fault>
+        ensures { IfOk result (λ n. n ≤ most) }
+    {
+        read_number(self.next_word(), most).ok_or(Fault::Number)
+    }
+
+    // The number that all that is left has to be.
+    pub fn last_number(self, most: u64) -> Result<u64, Fault>
+        ensures { IfOk result (λ n. n ≤ most) }
+    {
+        read_number(self.rest.unwrap_or_default(), most).ok_or(Fault::Number)
+    }
+
+    // The message that all that is left has to be. Its bytes are made in the space.
+    pub fn message<'s>(self, space: &'s mut [u8]) -> Result<&'s [u8], Fault> {
+        read_message(self.rest.unwrap_or_default(), space).ok_or(Fault::Message)
+    }
+
+    // A call that takes no words: a fault where any are left.
+    pub fn end<T: Copy>(self, call: T) -> Result<T, Fault> {
+        match self.rest {
+            None => Ok(call),
+            Some(_) => Err(Fault::Command),
+        }
+    }
+}

@@ -49,15 +49,10 @@ impl Session {
         ensures bank { result.bank ≡ empty_bank }
         ensures pieces { result.pieces ≡ replicate 16 (record { slot = 0; start = 0; length = 0 }) }
     {
-        let piece = Piece {
-            slot: 0,
-            start: 0,
-            length: 0,
-        };
         Session {
             jobs: [HashManyJob::zero(); MOST_JOBS],
             bank: Bank::new(),
-            pieces: [piece; MOST_RECORDS],
+            pieces: [Piece::default(); MOST_RECORDS],
         }
     }
 

@@ -8,13 +8,16 @@ use native.Mathlib.Omega.{arith}
 use lib.ListN.{take, drop}
 use Rattle.definitions.specs.Words.{pad}
 use Rattle.laws_words.specs.Bytes.{zeros}
-use Rattle.refusals.specs.Numbers.{accepted}
-use Rattle.hash.specs.Hash.{hash_of, digest_of}
+use Rattle.refusals.specs.Numbers.{accepted, slot_closed}
+use Rattle.hash.specs.Hash.{hash_of, digest_of, zero_hash}
+use Rattle.hash.specs.declared.Hash.{Hash}
 use Rattle.blake2b_state.specs.State.{state_in_range, closed_digest}
 use Rattle.blake2b_state.specs.State as state
 use Rattle.blake2b_state.specs.declared.state.State.{State}
 use Rattle.hash.proofs.Digests.{digest_of_hash}
-use Rattle.bank.specs.Rules.{place_fault, piece}
+use Rattle.bank.specs.Rules.{place_fault, piece, reply, digest}
+use Rattle.bank.specs.Slots.{slots, hash_answer}
+use Rattle.bank.specs.declared.slot.Slot.{Slot}
 use Rattle.bank.specs.declared.piece.Piece.{Piece}
 
 -- the digest of a state, as a record
@@ -43,3 +46,8 @@ rest a b = omega arith
 pub piece_is : (p : Piece) (d : List ℕ) → take (p.start + p.length - p.start) (drop p.start d) ≡ piece p d
 unfolding piece
 piece_is p d = ap (λ (n : ℕ). take n (drop p.start d)) (rest p.start p.length)
+
+-- what a closed slot answers to a digest
+pub closed_digest_lem : (s : Slot) → s.is_open ≡ false → {h : Hash} → h ≡ zero_hash → record { number = slot_closed; hash = h } ≡ hash_answer (reply slots s digest).answer
+unfolding reply pad zeros
+closed_digest_lem s e f = rw (e, f)

@@ -8,3 +8,4 @@ mod slot;
 
 pub use bank::{Bank, MOST_RECORDS, SLOTS};
 pub use piece::Piece;
+pub use refusals::{BatchRefusal, Refusal};

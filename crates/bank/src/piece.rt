@@ -7,7 +7,7 @@ ghost use Rattle.bank.specs.Rules.{place_fault};
 
 use refusals::{Refusal, piece_ok};
 
-#[derive(Clone, Copy)]
+#[derive(Clone, Copy, Default)]
 pub struct Piece {
     pub slot: usize,
     pub start: usize,

@@ -8,19 +8,14 @@ ghost use Rattle.bank.specs.Rules.{update_many};
 ghost use Rattle.bank.specs.Slots.{batch_limit, told, batch_answer};
 
 use bank::{Bank, MOST_RECORDS, Piece};
-use refusals::BatchRefusal;
+pub use refusals::BatchRefusal;
 
 // A batch of all records of a lent list. Of a list that is too long the rest is not copied: its length alone has it refused.
 pub fn update_many(bank: Bank, pieces: &[Piece], data: &[u8]) -> Result<Bank, BatchRefusal>
     ensures { as_batch_answer bank result ≡ batch_answer (told bank (update_many pieces.now (length pieces.now) «data».now)) }
 {
     // Places that are not used may hold any record.
-    let blank = Piece {
-        slot: 0,
-        start: 0,
-        length: 0,
-    };
-    let mut copied = [blank; MOST_RECORDS];
+    let mut copied = [Piece::default(); MOST_RECORDS];
     let used = pieces.len();
     let front = used.min(MOST_RECORDS);
     copied[..front].copy_from_slice(&pieces[..front]);

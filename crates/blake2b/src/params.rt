@@ -93,10 +93,7 @@ impl Params {
     pub(crate) fn check(&self) -> Result<(), Refusal>
         ensures { MatchResult result (λ _. in_range self.now ≡ true) (λ e. (e ≡ Record) × (in_range self.now ≡ false)) }
     {
-        if !self.in_range() {
-            return Err(Refusal::Record);
-        }
-        Ok(())
+        self.in_range().then_some(()).ok_or(Refusal::Record)
     }
 
     pub fn hash_length(self, length: usize) -> Result<Self, Refusal>

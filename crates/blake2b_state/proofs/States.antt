@@ -10,7 +10,7 @@ use Rattle.laws_blocks.specs.Blocks.{on_bytes}
 use Rattle.laws_states.proofs.Buffers.{Lawful}
 use Rattle.laws_states.proofs.Lifts.{Store}
 use Rattle.laws_states.proofs.Serial.{serial_lawful}
-use Rattle.refusals.specs.Numbers.{accepted}
+use Rattle.refusals.specs.Numbers.{accepted, limit}
 use Rattle.members.specs.Row.{digested}
 use Rattle.members.proofs.Laws.{KeeperLaws}
 use Rattle.members.proofs.Laws as members
@@ -64,3 +64,9 @@ pub begins : (words : List ℕ) (n : ℕ) (up keyed : Bool) (block : List ℕ) �
     → beginning words n up keyed block ≡ record { number = accepted; state = begun words n up keyed block }
 unfolding beginning
 begins words n up keyed block e = rw e
+
+pub held : (s : State) → state_in_range s ≡ true → s.buflen ≤ blockbytes
+held s good = (kept s good).held
+
+pub within : (s : State) → state_in_range s ≡ true → s.count + s.buflen ≤ limit
+within s good = let k = kept s good in omega (arith, k.within)

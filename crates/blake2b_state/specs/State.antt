@@ -1,6 +1,6 @@
 -- States: what waits and what has gone, how one begins, the state that bytes lead to, and what each call answers.
 -- Assumes nothing.
-use Rattle.std.specs.Prelude.{Bool, true, false, cond, List, [], ◌∷◌, ◌≡◌, ℕ, ◌+◌, ◌^◌, ◌<◌, ◌≤◌, length, take}
+use Rattle.std.specs.Prelude.{Bool, true, false, cond, List, [], ◌∷◌, ℕ, length, take}
 use Rattle.definitions.specs.Words.{pad}
 use Rattle.definitions.specs.Family.{BLAKE2b}
 use Rattle.definitions.specs.Hash.{sequential, start, state_bytes}
@@ -95,14 +95,6 @@ total = calls.total keeper
 
 abbrev pub state_in_range : State → Bool
 state_in_range = calls.in_range keeper
-
--- what a state in range keeps, as bounds
-pub record WithinBounds (s : State) : Type 0 where
-  pub least : 1 ≤ s.hash_length
-  pub most : s.hash_length ≤ outbytes
-  pub held : s.buflen ≤ blockbytes
-  pub within : s.count + s.buflen < 2 ^ 64
-  pub front : s.is_keyed ≡ true → blockbytes ≤ s.count + s.buflen
 
 abbrev pub closed_digest : State → List ℕ
 closed_digest = calls.closed_digest keeper

@@ -1,18 +1,19 @@
 // The state of a hash that takes its message piece by piece.
 // A last block, also a full one, waits in the buffer until more has come.
-ghost use Rattle.std.specs.Prelude.{◌≡◌, ◌++◌, ◌+◌, ◌*◌, ◌^◌, ◌<◌, ◌≤◌, [], true, false, length, is_some, unwrap_or, MatchResult};
+ghost use Rattle.std.specs.Prelude.{◌≡◌, ◌++◌, ◌+◌, ◌*◌, ◌^◌, ◌<◌, ◌≤◌, [], true, false, length, is_some, unwrap_or};
 ghost use Rattle.definitions.specs.Family.{BLAKE2b};
 ghost use Rattle.laws_blocks.specs.Chain.{spare, absorb};
 ghost use Rattle.laws_blocks.specs.Blocks.{on_bytes};
 ghost use Rattle.hash.specs.Answers.{as_hash_answer};
+ghost use Rattle.members.specs.Sizes.{sizes_of};
 ghost use Rattle.blake2b_state.specs.Answers.{as_state_answer, as_count_answer};
-ghost use Rattle.blake2b_state.specs.State.{state_in_range, WithinBounds, zero_state, beginning, plain, pending, moved, updated, last_node_set, finalized, counted};
+ghost use Rattle.blake2b_state.specs.State.{keeper, state_in_range, zero_state, beginning, plain, pending, moved, updated, last_node_set, finalized, counted};
 
 use guts::{Finalize, LastNode, Stride, offset_slice, store, zeroed};
 use hash::{Hash, OUTBYTES, is_digest_length};
-use members::Bounds;
+use members::{Bounds, Sizes};
 use portable::{BLOCKBYTES, Compressed, ParameterBlock, compress1_loop};
-use refusals::{LIMIT, Refusal};
+use refusals::Refusal;
 use words::write_words;
 
 #[derive(Clone, Copy)]
@@ -28,14 +29,11 @@ pub struct State {
     pub(crate) is_keyed: bool,
 }
 
-// What a key adds to the bytes of a total.
-const KEY_BLOCK: u64 = 128;
-
 const BOUNDS: Bounds = Bounds {
     most: OUTBYTES,
     room: BLOCKBYTES,
     unit: 1,
-    key: KEY_BLOCK,
+    key: BLOCKBYTES as u64,
 };
 
 // Whole blocks, none of them the last.
@@ -130,21 +128,23 @@ impl State {
         }
     }
 
+    // What is tested of the record.
+    fn sizes(self) -> Sizes
+        ensures { result ≡ sizes_of keeper self }
+    {
+        Sizes {
+            hash_length: self.hash_length,
+            buflen: self.buflen,
+            count: self.count,
+            is_keyed: self.is_keyed,
+        }
+    }
+
     // Whether the record keeps its stated ranges.
     pub fn in_range(self) -> bool
         ensures { result ≡ state_in_range self }
     {
-        BOUNDS.admits(self.hash_length, self.buflen, self.count, self.is_keyed)
-    }
-
-    // Refuses a record that breaks them.
-    fn check(&self) -> Result<(), Refusal>
-        ensures { MatchResult result (λ _. (state_in_range self.now ≡ true) × WithinBounds self.now) (λ e. (e ≡ Refusal.Record) × (state_in_range self.now ≡ false)) }
-    {
-        if !self.in_range() {
-            return Err(Refusal::Record);
-        }
-        Ok(())
+        BOUNDS.admits(self.sizes())
     }
 
     // The input fits the buffer.
@@ -216,15 +216,11 @@ impl State {
         s.take_long(offset_slice(input, room))
     }
 
-    #[tactic(auto, using(crate::proofs::Exits::handed_on), unfolding(crate::specs::State::updated, refusals::specs::Numbers::limit))]
+    #[tactic(auto, using(crate::proofs::States::held), unfolding(crate::specs::State::updated, refusals::specs::Numbers::limit))]
     pub fn update(self, input: &[u8]) -> Result<Self, Refusal>
         ensures { as_state_answer self result ≡ updated self input.now }
     {
-        self.check()?;
-        let left = LIMIT - self.count - self.buflen as u64;
-        if input.len() as u64 > left {
-            return Err(Refusal::Total);
-        }
+        BOUNDS.check_room(self.sizes(), input.len())?;
         if input.len() <= BLOCKBYTES - self.buflen {
             return Ok(self.fill_buf(input));
         }
@@ -235,11 +231,11 @@ impl State {
     }
 
     // The state may go on: it is a copy that is asked.
-    #[tactic(auto, using(crate::proofs::Exits::handed_on), unfolding(crate::specs::State::finalized))]
+    #[tactic(auto, using(crate::proofs::Exits::handed_on, crate::proofs::States::held, crate::proofs::States::within), unfolding(crate::specs::State::finalized, refusals::specs::Numbers::limit))]
     pub fn finalize(self) -> Result<Hash, Refusal>
         ensures { as_hash_answer result ≡ finalized self }
     {
-        self.check()?;
+        BOUNDS.check(self.sizes())?;
         let run = compress1_loop(
             &self.buf[..self.buflen],
             self.words,
@@ -255,20 +251,15 @@ impl State {
     pub fn set_last_node(self, last_node: bool) -> Result<Self, Refusal>
         ensures { as_state_answer self result ≡ last_node_set self last_node }
     {
-        self.check()?;
+        BOUNDS.check(self.sizes())?;
         Ok(State { last_node, ..self })
     }
 
     // The message bytes that came: the key block is not one of them.
-    #[tactic(auto, using(crate::proofs::Exits::handed_on), unfolding(crate::specs::State::counted, refusals::specs::Numbers::limit))]
+    #[tactic(auto, using(members::proofs::Promises::told_count), unfolding(crate::specs::State::counted))]
     pub fn count(self) -> Result<u64, Refusal>
         ensures { as_count_answer result ≡ counted self }
     {
-        self.check()?;
-        let all = self.count + self.buflen as u64;
-        if self.is_keyed {
-            return Ok(all - KEY_BLOCK);
-        }
-        Ok(all)
+        BOUNDS.message_bytes(self.sizes())
     }
 }

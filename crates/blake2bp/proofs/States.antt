@@ -22,7 +22,7 @@ use Rattle.hash.proofs.Digests.{digest_length_is, digest_of_hash}
 use Rattle.members.proofs.Laws as members
 use Rattle.members.proofs.Ranges.{Kept, in_range_lem}
 use Rattle.blake2bp_leaves.specs.Leaves.{words_of, on_leaf}
-use Rattle.blake2bp.specs.Sizes.{roombytes, keyrowbytes}
+use Rattle.blake2bp.specs.Sizes.{roombytes}
 use Rattle.blake2bp.specs.State.{bounds, machine, state_in_range, reads, keeper, member}
 use Rattle.blake2bp_leaves.specs.declared.leaves.Leaf.{Leaf}
 use Rattle.blake2bp.specs.declared.state.State.{State}
@@ -72,6 +72,3 @@ module _ (s : State) (good : state_in_range s ≡ true) where
 
   pub within : degree * s.count.0 + s.buf_len ≤ limit
   within = kept.within
-
-  pub ahead : s.is_keyed ≡ true → keyrowbytes ≤ degree * s.count.0 + s.buf_len
-  ahead keyed = rw keyed at kept.front

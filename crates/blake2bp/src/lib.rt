@@ -9,6 +9,8 @@ mod state;
 
 pub use blake2bp_leaves::LeafCount;
 pub use counts::MessageCount;
+pub use hash::Hash;
 pub use one_shot::blake2bp;
 pub use params::Params;
+pub use refusals::Refusal;
 pub use state::State;

@@ -49,11 +49,7 @@ impl Params {
     pub(crate) fn check(&self) -> Result<(), Refusal>
         ensures { MatchResult result (λ _. in_range self.now ≡ true) (λ e. (in_range self.now ≡ false) × (e ≡ Refusal.Record)) }
     {
-        if self.in_range() {
-            Ok(())
-        } else {
-            Err(Refusal::Record)
-        }
+        self.in_range().then_some(()).ok_or(Refusal::Record)
     }
 
     #[tactic(auto, unfolding(crate::specs::Params::answered))]

@@ -1,13 +1,14 @@
 // The state of a hash that takes its message piece by piece, and how parameters make it begin.
 // The buffer holds two rows of blocks: a row goes only once each leaf is known to get more.
-ghost use Rattle.std.specs.Prelude.{◌≡◌, true, false, ◌++◌, ◌+◌, ◌*◌, ◌^◌, ◌<◌, ◌≤◌, length, MatchResult};
+ghost use Rattle.std.specs.Prelude.{◌≡◌, true, false, ◌++◌, ◌+◌, ◌*◌, ◌^◌, ◌<◌, ◌≤◌, length};
 ghost use Rattle.definitions.specs.Words.{pad};
 ghost use Rattle.laws_blocks.specs.Chain.{spare};
 ghost use Rattle.laws_states.specs.Leaves.{row_of};
 ghost use Rattle.hash.specs.Answers.{as_hash_answer};
+ghost use Rattle.members.specs.Sizes.{sizes_of};
 ghost use Rattle.blake2bp.specs.Answers.{as_state_answer, as_count_answer, as_leaf_count_answer, as_buffered_answer};
 ghost use Rattle.blake2bp.specs.Params.{defaults};
-ghost use Rattle.blake2bp.specs.State.{pending, moved, total, state_in_range, zero_state, front, fresh, opened, updated, finalized, counted, leaf_counted, buffered_in};
+ghost use Rattle.blake2bp.specs.State.{keeper, pending, moved, state_in_range, zero_state, front, fresh, opened, updated, finalized, counted, leaf_counted, buffered_in};
 
 use crate::counts::MessageCount;
 use crate::params::Params;
@@ -17,8 +18,8 @@ use blake2bp_leaves::{
 };
 use guts::{offset_slice, padded, store, zeroed};
 use hash::Hash;
-use members::Bounds;
-use refusals::{LIMIT, Refusal};
+use members::{Bounds, Sizes};
+use refusals::Refusal;
 
 #[derive(Clone, Copy)]
 pub struct State {
@@ -39,14 +40,11 @@ const BUFFER: usize = 2 * ROW;
 
 const NEED: usize = (Params::DEGREE - 1) * Params::BLOCKBYTES;
 
-// What a key adds to the bytes of a total: a block for each leaf.
-const KEY_ROW: u64 = ROW as u64;
-
 const BOUNDS: Bounds = Bounds {
     most: Params::OUTBYTES,
     room: BUFFER,
     unit: Params::DEGREE as u64,
-    key: KEY_ROW,
+    key: ROW as u64,
 };
 
 // A buffer with a key block for each leaf.
@@ -88,31 +86,23 @@ impl State {
         }
     }
 
+    // What is tested of the record.
+    fn sizes(self) -> Sizes
+        ensures { result ≡ sizes_of keeper self }
+    {
+        Sizes {
+            hash_length: self.hash_length,
+            buflen: self.buf_len,
+            count: self.count.0,
+            is_keyed: self.is_keyed,
+        }
+    }
+
     // Whether the record keeps its stated ranges.
     pub fn in_range(self) -> bool
         ensures { result ≡ state_in_range self }
     {
-        BOUNDS.admits(self.hash_length, self.buf_len, self.count.0, self.is_keyed)
-    }
-
-    // Refuses a record that breaks its stated ranges.
-    fn check(&self) -> Result<(), Refusal>
-        ensures { MatchResult result (λ _. state_in_range self.now ≡ true) (λ e. (state_in_range self.now ≡ false) × (e ≡ Refusal.Record)) }
-    {
-        if self.in_range() {
-            Ok(())
-        } else {
-            Err(Refusal::Record)
-        }
-    }
-
-    // Message bytes and key block bytes, of a record that is in range.
-    #[tactic(auto, using(crate::proofs::States::within), unfolding(refusals::specs::Numbers::limit))]
-    fn total(&self) -> u64
-        requires { state_in_range self.now ≡ true }
-        ensures { result ≡ total self.now }
-    {
-        Params::DEGREE as u64 * self.count.0 + self.buf_len as u64
+        BOUNDS.admits(self.sizes())
     }
 
     // The input fits the buffer.
@@ -179,11 +169,7 @@ impl State {
     pub fn update(self, input: &[u8]) -> Result<State, Refusal>
         ensures { as_state_answer self result ≡ updated self input.now }
     {
-        self.check()?;
-        let left = LIMIT - self.total();
-        if input.len() as u64 > left {
-            return Err(Refusal::Total);
-        }
+        BOUNDS.check_room(self.sizes(), input.len())?;
         if self.buf_len == 0 {
             return Ok(self.take_long(input));
         }
@@ -198,22 +184,17 @@ impl State {
     pub fn finalize(self) -> Result<Hash, Refusal>
         ensures { as_hash_answer result ≡ finalized self }
     {
-        self.check()?;
+        BOUNDS.check(self.sizes())?;
         let leaves = finish_leaves(self.leaves, &self.buf[..self.buf_len], self.count);
         finalize_root_words(leaves, self.root_words, self.hash_length)
     }
 
     // The message bytes that came: the key blocks are not among them.
-    #[tactic(auto, using(crate::proofs::States::within, crate::proofs::States::ahead), unfolding(crate::specs::State::counted, refusals::specs::Numbers::limit))]
+    #[tactic(auto, using(members::proofs::Promises::told_count), unfolding(crate::specs::State::counted))]
     pub fn count(self) -> Result<MessageCount, Refusal>
         ensures { as_count_answer result ≡ counted self }
     {
-        self.check()?;
-        let all = self.total();
-        if self.is_keyed {
-            return Ok(MessageCount(all - KEY_ROW));
-        }
-        Ok(MessageCount(all))
+        Ok(MessageCount(BOUNDS.message_bytes(self.sizes())?))
     }
 
     // What each leaf has compressed.
@@ -221,7 +202,7 @@ impl State {
     pub fn leaf_count(self) -> Result<LeafCount, Refusal>
         ensures { as_leaf_count_answer result ≡ leaf_counted self }
     {
-        self.check()?;
+        BOUNDS.check(self.sizes())?;
         Ok(self.count)
     }
 
@@ -230,7 +211,7 @@ impl State {
     pub fn buffered(self) -> Result<usize, Refusal>
         ensures { as_buffered_answer result ≡ buffered_in self }
     {
-        self.check()?;
+        BOUNDS.check(self.sizes())?;
         Ok(self.buf_len)
     }
 }

@@ -14,7 +14,7 @@ ghost use Rattle.hash.specs.Hash.{is_digest_length, hash_in_range, hash_of, dige
 
 use guts::store;
 pub use output::write;
-use refusals::Refusal;
+pub use refusals::Refusal;
 
 // The most bytes that a digest has.
 pub const OUTBYTES: usize = 64;

@@ -7,3 +7,4 @@ mod placed;
 
 pub use batch::{MOST_JOBS, hash_many};
 pub use placed::HashManyJob;
+pub use refusals::{BatchRefusal, Refusal};

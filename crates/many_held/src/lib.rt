@@ -5,3 +5,4 @@
 mod held_job;
 
 pub use held_job::{HashManyJob, hash_through_job};
+pub use refusals::Refusal;

@@ -1,14 +1,20 @@
 -- What every crate promises of its calls, in its own records: the members' theorems, read through them.
 -- Assumes nothing.
 use mathlib.Core.Path.{◌≡◌, sym, ap, ◌∙◌}
-use mathlib.Core.Bool.{true}
-use mathlib.Core.List.{List, [], foldl}
+use mathlib.Core.Bool.{Bool, true, false, cond}
+use mathlib.Core.List.{List, [], ◌∷◌, foldl}
 use Prim.Native.Nat.{ℕ, ◌+◌, ◌-◌, ◌≤◌}
 use lib.ListN.{length}
+use Rattle.std.specs.Prelude.{Result}
 use Rattle.laws_states.specs.Buffer.{joined}
 use Rattle.laws_states.proofs.Buffers.{Sound}
 use Rattle.refusals.specs.Numbers.{accepted, total_over}
+use Rattle.refusals.specs.Answers.{number_of, number_in, value_in}
+use Rattle.refusals.specs.Tests.{Test, first, tested}
+use Rattle.refusals.proofs.Settled.{never_accepted}
+use Rattle.refusals.specs.declared.refusal.Refusal.{Refusal}
 use Rattle.refusals.proofs.Picks.{tested_ap}
+use Rattle.members.specs.Answers.{told}
 use Rattle.members.specs.Row.{Call, answers, digested, counted, row}
 use Rattle.members.specs.Keeper.{key_row, Keeper, pushed, total, in_range, closed_digest, ask_tests, update_tests, finalized, counts, updated, state_taker}
 use Rattle.members.specs.Keeper.{Reads, update_answer, hash_answer, count_answer, taker}
@@ -26,6 +32,29 @@ pub record Faithful {S U H C : Type 0} (r : Reads S U H C) : Type 0 where
   pub digest_of_lem : (d : List ℕ) → r.digested_of (r.made d) ≡ digested accepted d
   pub none_of : (n : ℕ) → r.digested_of (r.none n) ≡ digested n []
   pub count_of : (n c : ℕ) → r.counted_of (r.count n c) ≡ counted n c
+
+-- where the first test that fails has a refusal's number, that is answered
+tested_bad : {A : Type 0} (ts : List Test) (ok : A) (bad : ℕ → A) (e : Refusal) → number_of e ≡ first ts → bad (number_of e) ≡ tested ts ok bad
+tested_bad [] ok bad e n = absurd (never_accepted e n)
+tested_bad (t ∷ ts) ok bad e n = split t.holds n (tested_bad ts ok bad e)
+  where
+    split : (b : Bool) → number_of e ≡ cond b (first ts) t.refusal → (number_of e ≡ first ts → bad (number_of e) ≡ tested ts ok bad)
+        → bad (number_of e) ≡ cond b (tested ts ok bad) (bad t.refusal)
+    split true n rest = rest n
+    split false n rest = ap bad n
+
+-- what the calls of a state tell, put into a crate's records
+module _ {S L U H C : Type 0} (k : Keeper S L) (r : Reads S U H C) (s : S) where
+  -- a refusal by the tests of an update
+  pub refused_update : (a : List ℕ) (e : Refusal) → number_of e ≡ first (update_tests k s a) → r.state (number_of e) s ≡ update_answer k r s a
+  refused_update a e first_is =
+      tested_bad (update_tests k s a) (r.state accepted (pushed k s a)) (λ n. r.state n s) e first_is
+
+  pub told_count : (q : Result ℕ Refusal) → told 0 q ≡ counts k (λ c. (accepted, c)) (λ n. (n, 0)) s
+      → r.count (number_in q) (value_in 0 q) ≡ count_answer k r s
+  told_count q e =
+      let f : ℕ × ℕ → C = λ p. r.count p.0 p.1 in
+      ap f e ∙ tested_ap f (ask_tests k s) (accepted, total k s - key_row k.bounds (k.keyed s)) (λ n. (n, 0))
 
 module _ {S L U H C : Type 0} (k : Keeper S L) (r : Reads S U H C) (faithful : Faithful r) where
   open r use {number_of, state_of, digested_of, counted_of}

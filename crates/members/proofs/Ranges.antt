@@ -8,6 +8,9 @@ use lib.Dec.{leb}
 use Rattle.refusals.specs.Numbers.{is_length}
 use Rattle.refusals.proofs.Lengths.{length_is, length_bounds}
 use Rattle.members.specs.Keeper.{Bounds, total_of, key_row, range_of, Keeper, in_range}
+use Rattle.members.specs.Sizes.{bounds_of, in_bounds}
+use Rattle.members.specs.declared.bounds.Bounds as code
+use Rattle.members.specs.declared.bounds.Sizes.{Sizes}
 
 module _ (z : Bounds) (n b t : ℕ) (keyed : Bool) where
   -- what a state in range keeps
@@ -41,6 +44,10 @@ module _ (z : Bounds) (n b t : ℕ) (keyed : Bool) where
   ranged r =
       rw (length_is z.most n r.least r.most, le-leb b z.room r.held, le-leb (total_of z t b) z.limit r.within)
       (le-leb (key_row z keyed) (total_of z t b) r.front)
+
+-- of sizes that passed the test
+pub kept_in : (z : code.Bounds) (s : Sizes) → in_bounds z s ≡ true → InRange (bounds_of z) s.hash_length s.buflen s.count s.is_keyed
+kept_in z s = in_range_lem (bounds_of z) s.hash_length s.buflen s.count s.is_keyed
 
 -- of a state that passed the test
 module _ {S L : Type 0} (k : Keeper S L) (s : S) where

@@ -1,3 +1,5 @@
 pub mod Row
+pub mod Answers
 pub mod Keeper
+pub mod Sizes
 pub mod Member

@@ -9,20 +9,20 @@ use std::fmt;
 
 #[derive(Clone, Copy, Debug, PartialEq, Eq, Hash)]
 pub enum Refusal {
-    DigestLength,
-    KeyLength,
-    SaltLength,
-    PersonalLength,
-    InnerLength,
-    Total,
-    Slot,
-    Closed,
-    Piece,
-    Batch,
-    Output,
-    Unfinished,
-    Open,
-    Record,
+    DigestLength = 1,
+    KeyLength = 2,
+    SaltLength = 3,
+    PersonalLength = 4,
+    InnerLength = 5,
+    Total = 6,
+    Slot = 7,
+    Closed = 8,
+    Piece = 9,
+    Batch = 10,
+    Output = 11,
+    Unfinished = 12,
+    Open = 13,
+    Record = 14,
 }
 
 impl Refusal {
@@ -30,22 +30,7 @@ impl Refusal {
     pub fn number(self) -> u8
         ensures { result ≡ number_of self }
     {
-        match self {
-            Refusal::DigestLength => 1,
-            Refusal::KeyLength => 2,
-            Refusal::SaltLength => 3,
-            Refusal::PersonalLength => 4,
-            Refusal::InnerLength => 5,
-            Refusal::Total => 6,
-            Refusal::Slot => 7,
-            Refusal::Closed => 8,
-            Refusal::Piece => 9,
-            Refusal::Batch => 10,
-            Refusal::Output => 11,
-            Refusal::Unfinished => 12,
-            Refusal::Open => 13,
-            Refusal::Record => 14,
-        }
+        self as u8
     }
 }
 

@@ -1,7 +1,8 @@
 #![tactic(auto)]
 
 // The interpreter of a script's calls on BLAKE2b's parameters, states and digests.
-// Test code: safe by proof, with no promise of its own. docs/REPLAY.md has the format.
+// Test code: its promises are what a session begins with, what a call is answered and which record is kept. Which call a
+// line is, and which function of the library it calls, is safe by proof, no more. docs/REPLAY.md has the format.
 mod call;
 mod digest;
 mod params;

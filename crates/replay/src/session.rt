@@ -1,5 +1,10 @@
 // What a script has at hand between two lines.
 // The record that a call hands back becomes the current one; where it refused, what a refusal leaves does.
+ghost use Rattle.std.specs.Prelude.{◌≡◌};
+ghost use Rattle.hash.specs.Answers.{zero_hash};
+ghost use Rattle.blake2b_state.specs.State.{plain};
+ghost use Rattle.blake2b.specs.Params.{defaults};
+
 use crate::shown::{digest_shown, record_kept};
 use blake2b::{Hash, Params, State};
 use refusals::Refusal;
@@ -15,7 +20,9 @@ pub struct Session {
 }
 
 impl Session {
-    pub fn new() -> Self {
+    pub fn new() -> Self
+        ensures { result ≡ record { params = defaults; state = plain; last = zero_hash; kept = zero_hash } }
+    {
         Session {
             params: Params::new(),
             state: State::new(),

@@ -1,7 +1,7 @@
 #![tactic(auto)]
 
 // The interpreter of a script's calls on hash jobs and a bank.
-// Test code: safe by proof, with no promise of its own. docs/REPLAY.md has the format.
+// Test code: safe by proof, with no promise but what a session begins with. docs/REPLAY.md has the format.
 mod call;
 mod place;
 mod session;

@@ -1,5 +1,9 @@
 // What a script has at hand between two lines for its calls on jobs and a bank, and the calls on it, with the current parameters.
 // The record that a call hands back becomes the current one; where it refused, what a refusal leaves does.
+ghost use Rattle.std.specs.Prelude.{◌≡◌, replicate};
+ghost use Rattle.bank.specs.Slots.{empty_bank};
+ghost use Rattle.many.specs.Job.{zero_job};
+
 use crate::call::{BankCall, Call, JobCall};
 use bank::{Bank, MOST_RECORDS, Piece};
 use bank_lent::update_many_of_array;
@@ -40,16 +44,15 @@ fn digest_to<'r>(bank: Bank, slot: usize, length: usize, room: &'r mut [u8; ROOM
 }
 
 impl Session {
-    pub fn new() -> Self {
-        let piece = Piece {
-            slot: 0,
-            start: 0,
-            length: 0,
-        };
+    pub fn new() -> Self
+        ensures jobs { result.jobs ≡ replicate 16 zero_job }
+        ensures bank { result.bank ≡ empty_bank }
+        ensures pieces { result.pieces ≡ replicate 16 (record { slot = 0; start = 0; length = 0 }) }
+    {
         Session {
             jobs: [HashManyJob::zero(); MOST_JOBS],
             bank: Bank::new(),
-            pieces: [piece; MOST_RECORDS],
+            pieces: [Piece::default(); MOST_RECORDS],
         }
     }
 

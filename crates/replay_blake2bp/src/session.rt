@@ -1,5 +1,9 @@
 // What a script has at hand between two lines for its calls on BLAKE2bp, and the calls on it.
 // The record that a call hands back becomes the current one; where it refused, what a refusal leaves does.
+ghost use Rattle.std.specs.Prelude.{◌≡◌};
+ghost use Rattle.blake2bp.specs.Params.{defaults};
+ghost use Rattle.blake2bp.specs.State.{fresh};
+
 use crate::call::{Call, ParamsCall, StateCall};
 use blake2bp::{Params, State, blake2bp};
 use replay::{digest_shown, record_kept, value_shown};
@@ -12,7 +16,9 @@ pub struct Session {
 }
 
 impl Session {
-    pub fn new() -> Self {
+    pub fn new() -> Self
+        ensures { result ≡ record { params = defaults; state = fresh defaults } }
+    {
         Session {
             params: Params::new(),
             state: State::new(),

@@ -1,5 +1,7 @@
 // What a call is answered, and its text.
-ghost use Rattle.std.specs.Prelude.{◌≡◌};
+ghost use Rattle.std.specs.Prelude.{◌≡◌, Some};
+ghost use Rattle.std.specs.Fmt.{DisplaysOnOk};
+ghost use Rattle.replay_text.specs.Texts.{answer_text, shown_text, hex_text};
 
 use std::fmt;
 
@@ -33,12 +35,16 @@ pub enum Shown<'a> {
 }
 
 impl fmt::Display for Answer<'_> {
+    ghost output = { λ answer. Some (answer_text answer) };
+
     fn fmt<W: fmt::Write>(&self, f: &mut fmt::Formatter<W>) -> fmt::Result {
         write!(f, "number={}{}", self.number, self.shown)
     }
 }
 
 impl fmt::Display for Shown<'_> {
+    ghost output = { λ shown. Some (shown_text shown) };
+
     fn fmt<W: fmt::Write>(&self, f: &mut fmt::Formatter<W>) -> fmt::Result {
         match self {
             Shown::Nothing => Ok(()),
@@ -47,21 +53,19 @@ impl fmt::Display for Shown<'_> {
             Shown::Length(length) => write!(f, " length={length}"),
             Shown::Equal(equal) => write!(f, " equal={}", u8::from(*equal)),
             Shown::Bytes { length, bytes } => {
-                write!(f, " length={length} bytes={}", Hexadecimal(bytes))
+                write!(f, " length={length} bytes=")?;
+                write_digits(bytes, f)
             }
         }
     }
 }
 
 // Bytes, each as two lower-case digits.
-#[derive(Clone, Copy)]
-struct Hexadecimal<'a>(&'a [u8]);
-
-impl fmt::Display for Hexadecimal<'_> {
-    fn fmt<W: fmt::Write>(&self, f: &mut fmt::Formatter<W>) -> fmt::Result {
-        for byte in self.0 {
-            write!(f, "{byte:02x}")?;
-        }
-        Ok(())
+fn write_digits<W: fmt::Write>(bytes: &[u8], f: &mut fmt::Formatter<W>) -> fmt::Result
+    ensures { DisplaysOnOk W.Write.write_str_gives f.old result (Some (hex_text bytes.now)) f.new }
+{
+    for byte in bytes {
+        write!(f, "{byte:02x}")?;
     }
+    Ok(())
 }

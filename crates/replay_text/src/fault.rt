@@ -1,4 +1,7 @@
 // What is wrong with a line that is no call.
+ghost use Rattle.std.specs.Prelude.{Some};
+ghost use Rattle.replay_text.specs.Texts.{text_of};
+
 use std::error::Error;
 use std::fmt;
 
@@ -11,6 +14,8 @@ pub enum Fault {
 }
 
 impl fmt::Display for Fault {
+    ghost output = { λ e. Some (text_of e) };
+
     fn fmt<W: fmt::Write>(&self, f: &mut fmt::Formatter<W>) -> fmt::Result {
         f.write_str(match self {
             Fault::Command => "malformed command",

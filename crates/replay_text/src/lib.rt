@@ -1,8 +1,9 @@
 #![tactic(auto)]
 
 // The text of a script: what a line's words are read as, and how an answer is written.
-// Test code: safe by proof, with no promise but where a mark stands, how large a number is, and that a call that can't refuse is
-// answered 0; and nothing of BLAKE2. docs/REPLAY.md has the format.
+// Test code: its promises are where a mark stands, what a word is and what is left of a line, how large a number is and how
+// long a message, and what an answer and a fault are written as. None says which bytes a message has. docs/REPLAY.md has the
+// format.
 mod answer;
 mod fault;
 mod message;

@@ -1,6 +1,7 @@
 // Parts of a line, and numbers.
 // A mark is a byte between two parts: a space, a colon, a bracket.
-ghost use Rattle.std.specs.Prelude.{◌≡◌, ◌≢◌, ℕ, ◌<◌, ◌≤◌, length, slice_index, IfSome};
+ghost use Rattle.std.specs.Prelude.{◌≡◌, ◌≢◌, ℕ, ◌<◌, ◌≤◌, length, slice_index, IfSome, option_map};
+ghost use Rattle.replay_text.specs.Words.{in_front, behind};
 
 // Where the first mark is: the text's length where there is none.
 pub fn find(text: &[u8], mark: u8) -> usize
@@ -14,7 +15,11 @@ pub fn find(text: &[u8], mark: u8) -> usize
 }
 
 // The text in front of the first mark and the text behind it: all of it and none where there is no mark.
-pub fn split_once(text: &[u8], mark: u8) -> (&[u8], Option<&[u8]>) {
+#[tactic(auto, using(crate::proofs::Marks::first_mark))]
+pub fn split_once(text: &[u8], mark: u8) -> (&[u8], Option<&[u8]>)
+    ensures front { result.0.now ≡ in_front mark text.now }
+    ensures rest { option_map (λ rest. rest.now) result.1 ≡ behind mark text.now }
+{
     let at = find(text, mark);
     (&text[..at], text.get(at + 1..))
 }

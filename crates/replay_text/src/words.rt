@@ -1,5 +1,7 @@
 // The words of a line, one space between two: taken from the front, as what the line's call takes.
-ghost use Rattle.std.specs.Prelude.{◌≤◌, IfOk};
+ghost use Rattle.std.specs.Prelude.{◌≡◌, ◌≤◌, [], length, Some, None, Ok, Err, IfOk, IfErr, MatchOption, unwrap_or};
+ghost use Rattle.replay_text.specs.Words.{left, in_front, behind};
+ghost use Rattle.replay_text.specs.declared.fault.Fault.TheVariants.{Command, Message};
 
 use crate::fault::Fault;
 use crate::message::read_message;
@@ -12,12 +14,17 @@ pub struct Words<'a> {
 }
 
 impl<'a> Words<'a> {
-    pub fn of(line: &'a [u8]) -> Self {
+    pub fn of(line: &'a [u8]) -> Self
+        ensures { left result ≡ Some line.entry.now }
+    {
         Words { rest: Some(line) }
     }
 
     // The next word: no bytes where none is left.
-    pub fn next_word(&mut self) -> &'a [u8] {
+    pub fn next_word(&mut self) -> &'a [u8]
+        ensures word { result.now ≡ in_front 32 (unwrap_or (left self.old) []) }
+        ensures rest { left self.new ≡ behind 32 (unwrap_or (left self.old) []) }
+    {
         let (word, rest) = split_once(self.rest.unwrap_or_default(), b' ');
         self.rest = rest;
         word
@@ -38,12 +45,17 @@ impl<'a> Words<'a> {
     }
 
     // The message that all that is left has to be. Its bytes are made in the space.
-    pub fn message<'s>(self, space: &'s mut [u8]) -> Result<&'s [u8], Fault> {
+    pub fn message<'s>(self, space: &'s mut [u8]) -> Result<&'s [u8], Fault>
+        ensures ok { IfOk result (λ message. length message.now ≤ length space.old) }
+        ensures err { IfErr result (λ fault. fault ≡ Message) }
+    {
         read_message(self.rest.unwrap_or_default(), space).ok_or(Fault::Message)
     }
 
     // A call that takes no words: a fault where any are left.
-    pub fn end<T: Copy>(self, call: T) -> Result<T, Fault> {
+    pub fn end<T: Copy>(self, call: T) -> Result<T, Fault>
+        ensures { MatchOption (left self.entry) (result ≡ Ok call) (λ rest. result ≡ Err Command) }
+    {
         match self.rest {
             None => Ok(call),
             Some(_) => Err(Fault::Command),

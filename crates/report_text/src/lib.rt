@@ -5,4 +5,5 @@
 mod lines;
 mod report;
 
+pub use refusals::Refusal;
 pub use report::Report;

@@ -2,11 +2,12 @@
 ghost use Rattle.std.specs.Prelude.{◌≡◌, [], ◌++◌, ◌+◌, ◌≤◌, length};
 ghost use Rattle.report_text.specs.Lines.{line, decimal as decimal_of};
 
+use crate::report::Report;
 use arrayvec::ArrayVec;
 use io::decimal;
 
 // The bytes that a text has room for.
-pub(crate) const ROOM: usize = 256;
+pub(crate) const ROOM: usize = Report::ROOM;
 
 #[derive(Drop)]
 pub(crate) struct Lines {

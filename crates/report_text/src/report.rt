@@ -9,7 +9,7 @@ ghost use Rattle.report_text.specs.Answers.{as_got, as_reading};
 ghost use Rattle.report_text.specs.Lines.{five_lines};
 ghost use Rattle.report_text.specs.Report.{begun, taken, failed, after_reading, lines_of, text_answered, text_over};
 
-use crate::lines::{Lines, ROOM};
+use crate::lines::Lines;
 use blake2b::State;
 use hash::{Hash, OUTBYTES, write};
 use refusals::Refusal;
@@ -41,7 +41,7 @@ fn five_lines(hash: Hash, count: u64) -> Lines
 
 impl Report {
     // An output of so many bytes has room for every text.
-    pub const ROOM: usize = ROOM;
+    pub const ROOM: usize = 256;
 
     #[tactic(auto, using(blake2b::proofs::Plain::new_is_default))]
     pub fn new() -> Self

@@ -25,7 +25,7 @@ use Rattle.blake2b.specs.Params.{defaults}
 use Rattle.blake2b.specs.Member.{fresh}
 use Rattle.blake2b.proofs.Cleaned.{good_defaults}
 use Rattle.blake2b.proofs.OneShot.{hashed_defaults, one_shot_is_incremental}
-use Rattle.blake2b.proofs.Plain.{new_is_default, digest_plain, plain_within}
+use Rattle.blake2b.proofs.Plain.{new_is_default, finalized_plain, plain_within}
 use Rattle.blake2b.proofs.Rows.{state_of, Reached, opened_reached, opened_state, says_number, says_next}
 
 module _ (m : List ℕ) (few : length m ≤ limit) where
@@ -45,9 +45,11 @@ module _ (m : List ℕ) (few : length m ≤ limit) where
         let g = f ∙ ap (λ (t : State). updated t m) (e ∙ new_is_default) ∙ took in
         settled s (ap (λ (a : StateAnswer). a.number) g) (ap (λ (a : StateAnswer). a.state) g)
 
+  -- its digest is the one-shot digest's, with the number of an acceptance
+  done : finalized (state_of (row defaults m)) ≡ record { number = accepted; hash = hash_of (blake2 BLAKE2b outbytes [] m) }
+  done =
+      let asked = sym (one_shot_is_incremental defaults good_defaults.clean.whole good_defaults.ranged m (plain_within m few)) ∙ hashed_defaults m few in
+      ap (λ (a : StateAnswer). finalized a.state) (sym took) ∙ (λ i. record { number = (asked i).number; hash = finalized_plain m few i })
+
   pub finalize_known : {r : Result Hash Refusal} → as_hash_answer r ≡ finalized (state_of (row defaults m)) → r ≡ Ok (hash_of (blake2 BLAKE2b outbytes [] m))
-  finalize_known {r} f =
-      hash_settled
-      (f ∙ ap (λ (a : StateAnswer). finalized a.state) (sym took)
-      ∙ sym (one_shot_is_incremental defaults good_defaults.clean.whole good_defaults.ranged m (plain_within m few)) ∙ hashed_defaults m few
-      ∙ ap (λ (d : List ℕ). record { number = accepted; hash = hash_of d }) (digest_plain m))
+  finalize_known {r} f = hash_settled (f ∙ done)

@@ -70,6 +70,13 @@ equal_when_same (x ∷ s) (y ∷ t) e =
     let p = (and-eq-true_iff (eqb x y) (same_bytes s t)).0 e in
     λ i. eqb-true x y p.0 i ∷ equal_when_same s t p.1 i
 
+pub other_length_differs : (s t : List ℕ) → (length s ≡ length t → ⊥) → same_bytes s t ≡ false
+other_length_differs s t h = split (same_bytes s t) refl
+  where
+    split : (q : Bool) → same_bytes s t ≡ q → same_bytes s t ≡ false
+    split true e = absurd (h (ap length (equal_when_same s t e)))
+    split false e = e
+
 pub length_hex : (d : List ℕ) → length (hex_of d) ≡ 2 * length d
 unfolding hex_of flat_map
 length_hex [] = refl

@@ -3,7 +3,7 @@
 use mathlib.Core.Path.{◌≡◌, refl, sym, ap, ◌∙◌}
 use mathlib.Core.Bool.{Bool, true, false}
 use mathlib.Core.List.{List}
-use Prim.Native.Nat.{ℕ, ◌≤◌}
+use Prim.Native.Nat.{ℕ, ◌≤◌, zero-le}
 use native.Mathlib.Omega.{arith}
 use borrow.Author.Tests.{le-leb, leb-true}
 use lib.Dec.{leb}
@@ -21,6 +21,14 @@ use Rattle.hash.proofs.Digests.{hash_in_range_lem, digest_of_hash}
 -- n bytes of text to an output with room for them
 pub room_enough : (n room : ℕ) → n ≤ room → record { number = accepted; length = n } ≡ wrote n room
 room_enough n room h = rw (le-leb n room h)
+
+-- no more is written than there is room for
+pub wrote_within : (n room : ℕ) → (wrote n room).length ≤ room
+wrote_within n room = split (leb n room) refl
+  where
+    split : (q : Bool) → leb n room ≡ q → (wrote n room).length ≤ room
+    split true e = rw e (leb-true n room e)
+    split false e = rw e zero-le
 
 -- a is the answer to a text that is to go to an output
 module _ (text out : List ℕ) {a : LengthAnswer} (e : a ≡ wrote (length text) (length out)) where

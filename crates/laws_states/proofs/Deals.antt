@@ -1,13 +1,14 @@
 -- The machine of n leaves that are dealt blocks in turn is lawful, and its answer, each leaf's chain through its blocks, may be asked for
 -- after any rows that may go. For any number of leaves. Assumes nothing.
-use mathlib.Core.Path.{◌≡◌, refl, ap, ◌∙◌}
-use mathlib.Core.Bool.{Bool, true, false}
+use mathlib.Core.Path.{◌≡◌, refl, sym, ap, ◌∙◌}
+use mathlib.Core.Bool.{Bool, true, false, ◌&&◌}
 use mathlib.Core.List.{List, [], ◌∷◌, ◌++◌, map}
 use Prim.Native.Nat.{ℕ, zero, suc, ◌+◌, ◌-◌, ◌*◌, ◌≤◌, ◌<◌}
-use native.Mathlib.Nat.{add_comm, le_refl, le_trans, mul-le-mul_right, mul-pos, not-suc-le-zero}
+use native.Mathlib.Nat.{add-zero, zero-add, add_comm, le_refl, le_trans, mul-le-mul_right, mul-pos, not-suc-le-zero}
+use native.Mathlib.Numerals.{add-one}
 use native.Mathlib.Omega.{arith}
 use lib.Dec.{eqb}
-use lib.ListN.{length, drop, length-drop}
+use lib.ListN.{length, drop, set, get_or, length-drop}
 use lib.Seq.{drop-drop, drop-append-le, length-take-le}
 use Rattle.definitions.specs.Words.{from}
 use Rattle.laws_blocks.specs.Chain.{spare, block_at, absorb, through}
@@ -34,6 +35,21 @@ unfolding each
 each_none g i zero ws e = refl
 each_none g i (suc n) [] e = refl
 each_none g i (suc n) (w ∷ ws) e = rw (e i w, each_none g (suc i) n ws e)
+
+-- a turn of a loop over the members
+pub each_step : {W : Type 0} (g : ℕ → W → W) (i k : ℕ) (ws : List W) (z : W) → k < length ws → set (each g i k ws) k (g (i + k) (get_or ws k z)) ≡ each g i (suc k) ws
+unfolding each
+each_step g i k [] z h = absurd (not-suc-le-zero h)
+each_step g i zero (w ∷ ws) z h = rw add-zero
+each_step g i (suc k) (w ∷ ws) z h =
+    let e : i + suc k ≡ suc i + k = omega arith in
+    rw (e, each_step g (suc i) k ws z (omega arith))
+
+-- the same, as a loop's invariant goes on
+pub each_turn : {W : Type 0} (g : ℕ → W → W) (ws : List W) (i : ℕ) {out : List W} {r : W} (z : W) → i < length ws → out ≡ each g 0 i ws → r ≡ g i (get_or ws i z)
+    → set out i r ≡ each g 0 (i + 1) ws
+each_turn g ws i z h e f =
+    (λ j. set (e j) i (f j)) ∙ ap (λ (k : ℕ). set (each g 0 i ws) i (g k (get_or ws i z))) (sym (zero-add i)) ∙ each_step g 0 i ws z h ∙ ap (λ (k : ℕ). each g 0 k ws) (sym (add-one i))
 
 -- each of the values of h
 pub each_map : {W : Type 0} (g : ℕ → W → W) (h : ℕ → W) (i n : ℕ) → each g i n (map h (from i n)) ≡ map (λ j. g j (h j)) (from i n)
@@ -67,6 +83,13 @@ module _ {W : Type 0} (bb : ℕ) (F : W → List ℕ → ℕ → Bool → Bool �
       let l : length (drop (i * bb) d) ≡ n * bb * suc k - i * bb = length-drop (i * bb) d ∙ ap (λ (m : ℕ). m - i * bb) e in
       through_whole bb F (n * bb) w t (drop (i * bb) d) k (spare_is (n * bb) 0 row (length (drop (i * bb) d)) k (omega arith) (omega arith))
       (length-take-le bb (drop (n * bb * k) (drop (i * bb) d)) (rw (length-drop (n * bb * k) (drop (i * bb) d)) (omega arith)))
+
+  -- a turn of a loop over the leaves, which hands leaf i the input from its first block on
+  pub leaf_turn : (ws : List W) (t : ℕ) (f : Bool) (d : List ℕ) (i : ℕ) {out : List W} {r : W} (z : W) {node : Bool} {rest : List ℕ} → length ws ≡ n → i < n → node ≡ eqb (suc i) n
+      → rest ≡ drop (i * bb) d → out ≡ each (leaf_through bb F n t f d) 0 i ws → r ≡ through bb F (n * bb) (get_or ws i z) t f (f && node) rest
+      → set out i r ≡ each (leaf_through bb F n t f d) 0 (i + 1) ws
+  leaf_turn ws t f d i z all h node-is rest-is e g =
+      each_turn (leaf_through bb F n t f d) ws i z (omega arith) e (g ∙ (λ j. through bb F (n * bb) (get_or ws i z) t f (f && node-is j) (rest-is j)))
 
   -- where it does not finalize, over whole rows, these rows were dealt
   pub rows_dealt : (ws : List W) (t : ℕ) (d : List ℕ) (k : ℕ) → 0 < k → length d ≡ n * bb * k → each (leaf_through bb F n t false d) 0 n ws ≡ dealt bb F n ws t d k

@@ -3,6 +3,7 @@ pub mod Serial
 pub mod Steps
 pub mod Lifts
 pub mod Tails
+pub mod Pastes
 pub mod TwoRows
 pub mod Deals
 pub mod Images

@@ -1,13 +1,16 @@
 -- The pieces of specs/Halves.antt are F, for any family.
 -- Assumes nothing.
-use mathlib.Core.Path.{◌≡◌, refl, ap, ◌∙◌}
+use mathlib.Core.Path.{◌≡◌, refl, sym, ap, ◌∙◌}
+use mathlib.Core.Bool.{Bool}
 use mathlib.Core.List.{List, [], ◌∷◌}
-use Prim.Native.Nat.{ℕ, suc}
+use Prim.Native.Nat.{ℕ, suc, ◌+◌, ◌*◌, ◌/◌, ◌%◌, ◌^◌, ◌<◌}
+use native.Mathlib.Nat.{add_comm}
+use lib.Pow.{low, high}
 use lib.ListN.{length}
 use Rattle.definitions.specs.Words.{◌!◌}
 use Rattle.definitions.specs.Family.{Family}
-use Rattle.definitions.specs.Compress.{row, G, round, rounds_to}
-use Rattle.laws_words.specs.Halves.{ordered, mixed, columns_of, diagonals_of}
+use Rattle.definitions.specs.Compress.{row, G, round, rounds_to, ones, F}
+use Rattle.laws_words.specs.Halves.{ordered, mixed, columns_of, diagonals_of, initial, fold_halves}
 use Rattle.laws_words.proofs.Lists.{by_front}
 
 module _ (f : Family) where
@@ -48,3 +51,13 @@ module _ (f : Family) where
   step i m v0 {s} r p e g h =
       h ∙ (λ j. diagonals_of f (e j) ((g ∙ (λ k. columns_of f (e k) (p k))) j)) ∙ round_is s m (rounds_to f i m v0)
       ∙ ap (λ (q : List ℕ). round f q m (rounds_to f i m v0)) r
+
+  -- F from its pieces, at a count of two words
+  pub F_is : (h m : List ℕ) {v v0 r : List ℕ} (lo hi : ℕ) (last node : Bool) → lo < 2 ^ w
+      → v0 ≡ initial f h lo hi (ones f last) (ones f node) → v ≡ rounds_to f rounds m v0 → r ≡ fold_halves h v
+      → r ≡ F f h m (lo + hi * 2 ^ w) last node
+  unfolding F initial fold_halves
+  F_is h m lo hi last node b p q e =
+      let l : lo ≡ (lo + hi * 2 ^ w) % 2 ^ w = sym (low hi w b) ∙ ap (λ (n : ℕ). n % 2 ^ w) (add_comm (hi * 2 ^ w) lo) in
+      let u : hi ≡ (lo + hi * 2 ^ w) / 2 ^ w = sym (high hi w b) ∙ ap (λ (n : ℕ). n / 2 ^ w) (add_comm (hi * 2 ^ w) lo) in
+      e ∙ ap (fold_halves h) (q ∙ ap (rounds_to f rounds m) (p ∙ (λ i. initial f h (l i) (u i) (ones f last) (ones f node))))

@@ -1,9 +1,9 @@
--- What a state in range keeps, and when it is in range, for any bounds.
+-- When a state is in range, case by case, and what it then keeps, for any bounds.
 -- Assumes nothing.
 use mathlib.Core.Path.{◌≡◌, sym, ◌∙◌}
 use mathlib.Core.Bool.{Bool, true, false, not, ◌&&◌, and-eq-true_iff}
-use Prim.Native.Nat.{ℕ, ◌≤◌}
-use borrow.Author.Tests.{not-false, le-leb, leb-true}
+use Prim.Native.Nat.{ℕ, ◌<◌, ◌≤◌}
+use borrow.Author.Tests.{not-true, not-false, le-leb, lt-leb, leb-true}
 use lib.Dec.{leb}
 use Rattle.refusals.specs.Numbers.{is_length}
 use Rattle.refusals.proofs.Lengths.{length_is, length_bounds}
@@ -13,6 +13,24 @@ use Rattle.members.specs.declared.bounds.Bounds as code
 use Rattle.members.specs.declared.bounds.Sizes.{Sizes}
 
 module _ (z : Bounds) (n b t : ℕ) (keyed : Bool) where
+  module _ {q : Bool} (e : q ≡ is_length z.most n) where
+    pub range_digest : not q ≡ true → false ≡ range_of z n b t keyed
+    unfolding range_of
+    range_digest h = rw (sym e ∙ not-true q h)
+
+    module _ (h : not q ≡ false) where
+      pub range_overfull : z.room < b → false ≡ range_of z n b t keyed
+      unfolding range_of
+      range_overfull g = rw (sym e ∙ not-false q h, lt-leb b z.room g)
+
+      pub range_over : b ≤ z.room → z.limit < total_of z t b → false ≡ range_of z n b t keyed
+      unfolding range_of
+      range_over g f = rw (sym e ∙ not-false q h, le-leb b z.room g, lt-leb (total_of z t b) z.limit f)
+
+      pub range_last : b ≤ z.room → total_of z t b ≤ z.limit → leb (key_row z keyed) (total_of z t b) ≡ range_of z n b t keyed
+      unfolding range_of
+      range_last g f = rw (sym e ∙ not-false q h, le-leb b z.room g, le-leb (total_of z t b) z.limit f)
+
   -- what a state in range keeps
   pub record InRange : Type 0 where
     pub least : 1 ≤ n

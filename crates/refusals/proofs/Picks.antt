@@ -1,9 +1,10 @@
 -- A call's answer, test by test: what stands where a test holds, and where it fails.
 -- Assumes nothing.
-use mathlib.Core.Path.{◌≡◌, refl}
-use mathlib.Core.Bool.{Bool, true, false, cond}
+use mathlib.Core.Path.{◌≡◌, refl, sym, ◌∙◌}
+use mathlib.Core.Bool.{Bool, true, false, cond, not, ◌&&◌}
 use mathlib.Core.List.{List, [], ◌∷◌}
 use Prim.Native.Nat.{ℕ}
+use borrow.Author.Tests.{not-true, not-false}
 use Rattle.refusals.specs.Tests.{Test, tested}
 
 module _ {A : Type 0} (b : Bool) (x y : A) {r : A} where
@@ -12,6 +13,29 @@ module _ {A : Type 0} (b : Bool) (x y : A) {r : A} where
 
   pub fails : b ≡ false → r ≡ y → r ≡ cond b x y
   fails e f = rw e f
+
+  -- as code has it: a call answered the test, and was negated
+  module _ {good : Bool} (e : good ≡ b) where
+    pub passed : not good ≡ false → r ≡ x → r ≡ cond b x y
+    passed h f = holds (sym e ∙ not-false good h) f
+
+    pub refused : not good ≡ true → r ≡ y → r ≡ cond b x y
+    refused h f = fails (sym e ∙ not-true good h) f
+
+-- the tests of a range, likewise
+module _ (b c : Bool) where
+  pub and_holds : {r : Bool} → b ≡ true → r ≡ c → r ≡ b && c
+  and_holds e f = rw e f
+
+  pub and_fails : b ≡ false → false ≡ b && c
+  and_fails e = rw e
+
+  module _ {good : Bool} (e : good ≡ b) where
+    pub and_passed : {r : Bool} → not good ≡ false → r ≡ c → r ≡ b && c
+    and_passed h f = and_holds (sym e ∙ not-false good h) f
+
+    pub and_refused : not good ≡ true → false ≡ b && c
+    and_refused h = and_fails (sym e ∙ not-true good h)
 
 -- a function of an answer
 pub tested_ap : {A B : Type 0} (f : A → B) (ts : List Test) (ok : A) (bad : ℕ → A) → f (tested ts ok bad) ≡ tested ts (f ok) (λ n. f (bad n))

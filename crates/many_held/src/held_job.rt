@@ -1,10 +1,13 @@
 // A job beside the slice that it keeps: what is done to its work is the crate `many_work`'s.
 ghost use Rattle.std.specs.Prelude.{◌≡◌};
+ghost use Rattle.refusals.specs.Answers.{number_in, value_in};
 ghost use Rattle.hash.specs.Answers.{as_hash_answer};
 ghost use Rattle.blake2b.specs.Member.{hashed};
 ghost use Rattle.many_work.specs.Work.{zero_work};
 ghost use Rattle.many_held.specs.Answers.{as_job_answer};
+ghost use Rattle.many_held.specs.Steps.{unless_refused};
 ghost use Rattle.many_held.specs.HeldJob.{holding, made_job, ran_job, job_hash};
+ghost use Rattle.many_held.specs.declared.held_job.HashManyJob.{HashManyJob};
 
 use blake2b::Params;
 use hash::Hash;
@@ -63,5 +66,15 @@ impl<'a> HashManyJob<'a> {
 pub fn hash_through_job(params: Params, input: &[u8]) -> Result<Hash, Refusal>
     ensures { as_hash_answer result ≡ hashed params input.now }
 {
-    HashManyJob::new(params, input)?.run()?.to_hash()
+    unless_refused(HashManyJob::new(params, input))
+}
+
+// A refusal of the making of a job is the answer, whichever it is; else the answer is what the digest of that job is, once it is run.
+// It stands by itself so that this is promised of every refusal: `new` refuses no slice with Total, as none is that long.
+// Where the making is refused there is no job: the answer is the same whatever z stands in its place.
+#[tactic(auto, unfolding(crate::specs::Steps::unless_refused, crate::specs::Steps::ran_work, many_work::specs::Work::work_hash))]
+fn unless_refused(made: Result<HashManyJob<'_>, Refusal>) -> Result<Hash, Refusal>
+    ensures { (z : HashManyJob) → as_hash_answer result ≡ unless_refused (number_in made.entry) (job_hash (ran_job (value_in z made.entry)).job) }
+{
+    made?.run()?.to_hash()
 }

@@ -81,6 +81,14 @@ module _ (s : State) where
       split true g = absurd (never_accepted e (ap (λ (a : HashAnswer). a.number) (rw g at f)))
       split false g = (refl, same_refusal e Record (ap (λ (a : HashAnswer). a.number) (rw g at f)))
 
+  pub count_told : {n : ℕ} → as_count_answer (Ok n) ≡ counted s → state_in_range s ≡ true
+  unfolding counted
+  count_told e = split (state_in_range s) refl
+    where
+      split : (b : Bool) → state_in_range s ≡ b → b ≡ true
+      split true g = refl
+      split false g = let z : accepted ≡ bad_record = ap (λ (a : CountAnswer). a.number) (rw g at e) in absurd (omega arith)
+
   pub count_refused : (e : Refusal) → as_count_answer (Err e) ≡ counted s → (state_in_range s ≡ false) × (e ≡ Record)
   unfolding counted
   count_refused e f = split (state_in_range s) refl

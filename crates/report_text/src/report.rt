@@ -91,12 +91,12 @@ impl Report {
             (λ made. (state_in_range self.state ≡ true) × (made.text.items ≡ lines_of self))
             (λ e. (state_in_range self.state ≡ false) × (e ≡ Record)) }
     {
-        let hash = self.state.finalize()?;
         let count = self.state.count()?;
-        if self.readable {
-            return Ok(five_lines(hash, count));
+        if !self.readable {
+            return Ok(Lines::new().line(b"result", b"unreadable"));
         }
-        Ok(Lines::new().line(b"result", b"unreadable"))
+        let hash = self.state.finalize()?;
+        Ok(five_lines(hash, count))
     }
 
     // The text, to the front of the output.

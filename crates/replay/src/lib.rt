@@ -1,8 +1,9 @@
 #![tactic(auto)]
 
 // The interpreter of a script's calls on BLAKE2b's parameters, states and digests.
-// Test code: its promises are what a session begins with, what a call is answered and which record is kept. Which call a
-// line is, and which function of the library it calls, is safe by proof, no more. docs/REPLAY.md has the format.
+// Test code: its promises are what a session begins with, and of what it is handed what is shown (`value_shown`, `written_shown`,
+// `digest_shown`) and which record is left (`record_kept`). Which call a line is, which function of the library it calls, and that a
+// session keeps what that hands back, is safe by proof, no more. docs/REPLAY.md has the format.
 mod call;
 mod digest;
 mod params;

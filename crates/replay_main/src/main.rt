@@ -2,19 +2,20 @@
 
 // Runs a script of calls: it comes on standard input, and the answers go to standard output.
 // The work is that of crates replay, replay_batches and replay_blake2bp; here a line is put together from what the reads bring.
-use arrayvec::ArrayVec;
-use replay_text::{Answer, Fault, ROOM, Words};
+use arrayvec::{ArrayString, ArrayVec};
+use replay_text::{Answer, Fault, LONGEST, ROOM, Words};
+use std::fmt::{Display, Write};
 use std::io;
 use std::io::Read;
 
 // One read's bytes: a big buffer, as each read is a call of the system.
 const PIECE: usize = 65536;
 
-// The longest line, in bytes.
-const LONGEST: usize = 8192;
-
-// A byte more, so that a longer line is seen.
+// A byte more than the longest line, so that a longer one is seen.
 const LINE: usize = LONGEST + 1;
+
+// The longest answer, which shows 1,024 bytes, has room.
+const TEXT: usize = 4096;
 
 // The longest message's bytes.
 const SPACE: usize = 4194304;
@@ -45,14 +46,13 @@ impl Sessions {
         self.batches.run(self.blake2b.params, call, room)
     }
 
-    // The call whose line it is, by the first word. A message is made in the space, and the bytes that are shown in the room.
+    // The call whose words they are, by the first. A message is made in the space, and the bytes that are shown in the room.
     fn call<'r>(
         &mut self,
-        line: &[u8],
+        all: Words<'_>,
         space: &mut [u8],
         room: &'r mut [u8; ROOM],
     ) -> Result<Answer<'r>, Fault> {
-        let all = Words::of(line);
         let mut words = all;
         Ok(match words.next_word() {
             b"bp" => self
@@ -70,19 +70,18 @@ impl Sessions {
         space: &mut [u8],
         room: &'r mut [u8; ROOM],
     ) -> Result<Option<Answer<'r>>, Fault> {
-        match line {
-            _ if line.len() > LONGEST => Err(Fault::Line),
-            [] | [b'#', ..] => Ok(None),
-            _ => self.call(line, space, room).map(Some),
+        match Words::of_line(line)? {
+            Some(words) => self.call(words, space, room).map(Some),
+            None => Ok(None),
         }
     }
 
     fn answer(&mut self, output: &impl Print, line: &[u8], space: &mut [u8]) -> io::Result<()> {
         let mut room = [0u8; ROOM];
         match self.run(line, space, &mut room) {
-            Ok(Some(answer)) => output.println(answer),
+            Ok(Some(answer)) => write_line(output, answer),
             Ok(None) => Ok(()),
-            Err(fault) => output.println(fault),
+            Err(fault) => write_line(output, fault),
         }
     }
 
@@ -106,6 +105,13 @@ impl Sessions {
         }
         written
     }
+}
+
+// One write for the whole line, so that a pipe that others write to, or that fills up, has it whole or not at all.
+fn write_line(output: &impl Print, shown: impl Display + Drop) -> io::Result<()> {
+    let mut text = ArrayString::<TEXT>::new();
+    writeln!(text, "{shown}")?;
+    output.write_all(text.as_bytes())
 }
 
 // A last line needs no line feed. Where the input can't be read, what is held of a line is left.

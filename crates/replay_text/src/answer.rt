@@ -1,12 +1,15 @@
 // What a call is answered, and its text.
-ghost use Rattle.std.specs.Prelude.{◌≡◌, Some};
-ghost use Rattle.std.specs.Fmt.{DisplaysOnOk};
+ghost use Rattle.std.specs.Prelude.{◌≡◌, ◌*◌, ◌<◌, false, length, Some};
+ghost use Rattle.std.specs.Fmt.{DisplaysOnOk, digit_glyph};
 ghost use Rattle.replay_text.specs.Texts.{answer_text, shown_text, hex_text};
 
 use std::fmt;
 
 // The most bytes that an answer shows.
 pub const ROOM: usize = 1024;
+
+// How many bytes' digits are written at once: those of a digest are one part.
+const PART: usize = 64;
 
 // A call's number, and what is shown behind it. The bytes lie in a lent buffer.
 #[derive(Clone, Copy, Debug, PartialEq, Eq)]
@@ -60,12 +63,33 @@ impl fmt::Display for Shown<'_> {
     }
 }
 
-// Bytes, each as two lower-case digits.
+// Bytes, each as two lower-case digits, which are written a part at a time.
 fn write_digits<W: fmt::Write>(bytes: &[u8], f: &mut fmt::Formatter<W>) -> fmt::Result
     ensures { DisplaysOnOk W.Write.write_str_gives f.old result (Some (hex_text bytes.now)) f.new }
 {
-    for byte in bytes {
-        write!(f, "{byte:02x}")?;
+    for part in bytes.chunks(PART) {
+        let mut room = [0; 2 * PART];
+        f.write_str(digits(part, &mut room[..2 * part.len()]))?;
     }
     Ok(())
+}
+
+// The digits of a part, over a buffer of their length.
+fn digits<'r>(part: &[u8], room: &'r mut [u8]) -> &'r str
+    requires { length room.old ≡ 2 * length part.now }
+    ensures { result.now ≡ hex_text part.now }
+{
+    for (i, byte) in part.iter().enumerate() {
+        room[2 * i] = digit(byte / 16);
+        room[2 * i + 1] = digit(byte % 16);
+    }
+    str::from_utf8(room).unwrap()
+}
+
+// A lower-case hexadecimal digit.
+fn digit(n: u8) -> u8
+    requires { n < 16 }
+    ensures { result ≡ digit_glyph false n }
+{
+    if n < 10 { b'0' + n } else { b'a' + (n - 10) }
 }

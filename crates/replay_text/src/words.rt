@@ -1,11 +1,14 @@
 // The words of a line, one space between two: taken from the front, as what the line's call takes.
-ghost use Rattle.std.specs.Prelude.{◌≡◌, ◌≤◌, [], length, Some, None, Ok, Err, IfOk, IfErr, MatchOption, unwrap_or};
-ghost use Rattle.replay_text.specs.Words.{left, in_front, behind};
-ghost use Rattle.replay_text.specs.declared.fault.Fault.TheVariants.{Command, Message};
+ghost use Rattle.std.specs.Prelude.{◌≡◌, ◌<◌, ◌≤◌, [], length, true, false, Some, None, Ok, Err, IfOk, IfErr, MatchOption, MatchResult, unwrap_or};
+ghost use Rattle.replay_text.specs.Words.{left, in_front, behind, is_passed_over};
+ghost use Rattle.replay_text.specs.declared.fault.Fault.TheVariants.{Command, Line, Message};
 
 use crate::fault::Fault;
 use crate::message::read_message;
 use crate::text::{read_number, split_once};
+
+// The longest line, in bytes.
+pub const LONGEST: usize = 8192;
 
 // What is left of a line, if anything is.
 #[derive(Clone, Copy)]
@@ -18,6 +21,20 @@ impl<'a> Words<'a> {
         ensures { left result ≡ Some line.entry.now }
     {
         Words { rest: Some(line) }
+    }
+
+    // The words of a line that is to be answered: none where it is empty or a comment. What is too long is a fault whatever it is.
+    pub fn of_line(line: &'a [u8]) -> Result<Option<Self>, Fault>
+        ensures { MatchResult result
+            (λ read. (length line.entry.now ≤ LONGEST) × MatchOption read (is_passed_over line.entry.now ≡ true)
+            (λ words. (is_passed_over line.entry.now ≡ false) × (left words ≡ Some line.entry.now)))
+            (λ fault. (LONGEST < length line.entry.now) × (fault ≡ Line)) }
+    {
+        match line {
+            _ if line.len() > LONGEST => Err(Fault::Line),
+            [] | [b'#', ..] => Ok(None),
+            _ => Ok(Some(Words::of(line))),
+        }
     }
 
     // The next word: no bytes where none is left.

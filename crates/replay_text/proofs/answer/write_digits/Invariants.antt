@@ -1,10 +1,15 @@
--- What `write_digits` has written in front of each byte.
+-- What `write_digits` has written in front of each part, and what is left.
 -- Assumes nothing.
-use Rattle.std.proofs.Common.{take}
+use Rattle.std.proofs.Common.{◌≡◌, ℕ, List, ◌++◌}
 use Rattle.std.specs.Fmt.{HasWritten, IsPlainFormatter}
+use Rattle.std.specs.Slice.Iter.{chunks_rest, chunks_size}
 use Rattle.replay_text.specs.Texts.{hex_text}
 use Rattle.replay_text.proofs.answer.write_digits.Given as goal
 
-abbrev pub invariant-loop-byte : goal.invariant-loop-byte
-invariant-loop-byte g l =
-    IsPlainFormatter l.initial.f → HasWritten g.W.Write.write_str_gives l.initial.f (hex_text (take l.byte-index l.bytes)) l.f
+abbrev pub invariant-loop-part : goal.invariant-loop-part
+invariant-loop-part g l =
+    (goal.iterator-loop-part g).can_next l.part-iterator
+    × (goal.iterator-loop-part g).is_finite l.part-iterator
+    × (chunks_size l.part-iterator ≡ 64)
+    × (IsPlainFormatter l.initial.f → (done : List ℕ) × HasWritten g.W.Write.write_str_gives l.initial.f done l.f
+    × (done ++ hex_text (chunks_rest l.part-iterator) ≡ hex_text l.fn.bytes))
